@@ -3,3 +3,4 @@ pub mod Four
 pub mod Origins
 pub mod Judging
 pub mod Entries
+mod Fields

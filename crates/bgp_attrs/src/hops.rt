@@ -8,10 +8,10 @@ ghost use Rattle.fib_addr.specs.Views.{addr_as};
 ghost use Rattle.bgp_attrs.specs.Views.{hop_as, hop_read};
 
 use crate::hop_octets::HopOctets;
+use crate::{Rule, family};
 use byteorder::{BigEndian, ByteOrder};
 use fib_addr::{Addr, Family};
 use octet_fields::{octet, octets};
-use wire_fields::{Rule, family};
 
 /// The address in the octets of a next hop: 4 are IPv4, and of 16 or 32 the first 16 are IPv6 (RFC 2545, section 3).
 #[inline(always)]

@@ -5,8 +5,8 @@ ghost use Rattle.octet_fields.specs.Field.{number_at};
 ghost use Rattle.octet_fields.specs.Gives.{Gives};
 ghost use Rattle.wire_model.specs.declared.rule.Rule.TheVariants.{AttributeCut};
 
+use crate::Rule;
 use octet_fields::{octet, u16_at};
-use wire_fields::Rule;
 
 /// The type of AS_PATH (RFC 4271, section 5.1.2).
 pub const AS_PATH: u8 = 2;

@@ -6,18 +6,26 @@
 //! (`wire_model::Rule`) that its first wrong field breaks.
 #![tactic(auto)]
 
+mod families;
 mod hop_octets;
 mod hops;
 mod kinds;
 mod list;
 mod multiprotocol;
 mod path;
+mod prefix_list;
 mod reach;
+mod refusal;
 mod rib;
+mod wire_prefix;
 
+pub use families::{address, family, family_of};
 pub use hop_octets::HopOctets;
 pub use list::{Attrs, read_attrs};
 pub use multiprotocol::{Reach, Unreach};
 pub use path::{path_length, path_origin};
+pub use prefix_list::check_nlri;
+pub use refusal::Refusal;
 pub use rib::{RibAttrs, read_rib_attrs};
-pub use wire_model::Place;
+pub use wire_model::{Place, Rule};
+pub use wire_prefix::{Nlri, WireFault, next_nlri, path_id, prefix, read_wire_prefix};

@@ -3,7 +3,7 @@
 ghost use Rattle.std.specs.Prelude.{◌≡◌, ◌<◌, ◌^◌, length, IfOk, option_map};
 ghost use Rattle.octet_fields.specs.Gives.{Gives};
 ghost use Rattle.wire_model.specs.Path.{as_size, path_of};
-ghost use Rattle.wire_model.specs.Attribute.{attribute_at, attributes, is_bad, is_wide, judged, listed, next_hop_in, nothing_found, with_as_path, with_next_hop, with_reach, with_unreach, with_value};
+ghost use Rattle.wire_model.specs.Attribute.{attribute_at, attributes, is_bad, is_wide, judged, listed_from, next_hop_in, nothing_found, with_as_path, with_next_hop, with_reach, with_unreach, with_value};
 ghost use Rattle.fib_addr.specs.Views.{addr_as};
 ghost use Rattle.bgp_attrs.specs.Views.{found_as, ipv4_as, judged_as, listed_as};
 
@@ -11,10 +11,10 @@ use crate::kinds::{AS_PATH, MP_REACH_NLRI, MP_UNREACH_NLRI, NEXT_HOP, value_len}
 use crate::multiprotocol::{Reach, Unreach};
 use crate::path::{Path, read_path};
 use crate::reach::{reach_in_rib, reach_in_update, unreach_in_update};
+use crate::{Rule, family};
 use byteorder::{BigEndian, ByteOrder};
 use fib_addr::Addr;
 use octet_fields::{octet, octets};
-use wire_fields::{Rule, family};
 use wire_model::Place;
 
 /// What an attribute list gives.
@@ -217,7 +217,7 @@ fn ipv4_addr(bits: Option<u32>) -> Option<Addr>
 /// What the list as a whole gives.
 #[inline(always)]
 fn attrs_of(found: Found<'_>) -> Attrs<'_>
-    ensures { listed_as result ≡ listed (found_as found.entry) }
+    ensures { listed_as result ≡ listed_from (found_as found.entry) }
 {
     let bad = matches!(found.path, Some(None)) || matches!(found.hop, Some(None));
     let hop = ipv4_addr(found.hop.flatten());

@@ -16,7 +16,7 @@ pub struct Reach<'a> {
     pub hop: Addr,
     /// Whether each prefix has a path identifier.
     pub ids: bool,
-    /// The entries of NLRI, as octets that `wire_fields::next_nlri` reads to their end without a fault; empty in a RIB entry.
+    /// The entries of NLRI, as octets that `crate::next_nlri` reads to their end without a fault; empty in a RIB entry.
     pub nlri: &'a [u8],
     pub ghost filled: { is_ok (nlris AttributeValue ids family nlri.now) ≡ true },
 }
@@ -28,7 +28,7 @@ pub struct Unreach<'a> {
     pub family: Family,
     /// Whether each prefix has a path identifier.
     pub ids: bool,
-    /// The entries of NLRI, as octets that `wire_fields::next_nlri` reads to their end without a fault.
+    /// The entries of NLRI, as octets that `crate::next_nlri` reads to their end without a fault.
     pub nlri: &'a [u8],
     pub ghost filled: { is_ok (nlris AttributeValue ids family nlri.now) ≡ true },
 }

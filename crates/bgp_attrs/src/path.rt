@@ -5,9 +5,9 @@ ghost use Rattle.octet_fields.specs.Gives.{Gives};
 ghost use Rattle.wire_model.specs.Path.{segment_length, segment_origin, segment_at, as_size, no_path, path_of, path_length_of, path_origin_of};
 ghost use Rattle.bgp_attrs.specs.Views.{path_as};
 
+use crate::Rule;
 use byteorder::{BigEndian, ByteOrder};
 use octet_fields::{octet, octets};
-use wire_fields::Rule;
 
 /// A segment of AS numbers in no order.
 const AS_SET: u8 = 1;

@@ -7,9 +7,9 @@ ghost use Rattle.bgp_attrs.specs.Views.{reached, unreached};
 
 use crate::hops::{next_hop_in_rib, next_hop_of};
 use crate::multiprotocol::{Reach, Unreach};
+use crate::{Rule, check_nlri};
 use fib_addr::Family;
 use octet_fields::octet;
-use wire_fields::{Rule, check_nlri};
 
 /// MP_REACH_NLRI of a RIB entry; one that can't be read gives nothing.
 #[tactic(auto, unfolding(wire_model::specs::Wire::nlris, octet_fields::specs::Field::steps))]

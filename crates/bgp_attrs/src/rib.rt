@@ -3,16 +3,16 @@
 ghost use Rattle.std.specs.Prelude.{◌≡◌, ◌<◌, ◌^◌, length, IfOk, Ok};
 ghost use Rattle.octet_fields.specs.Gives.{Gives};
 ghost use Rattle.wire_model.specs.declared.place.Place.TheVariants.{Rib as InRib};
-ghost use Rattle.wire_model.specs.Attribute.{attribute_at, attributes, listed, nothing_found, with_as_path, with_next_hop, with_reach, with_value};
+ghost use Rattle.wire_model.specs.Attribute.{attribute_at, attributes, listed_from, nothing_found, with_as_path, with_next_hop, with_reach, with_value};
 ghost use Rattle.bgp_attrs.specs.Views.{rib_found_as, rib_listed_as};
 
+use crate::Rule;
 use crate::hop_octets::HopOctets;
 use crate::hops::next_hop_in_rib;
 use crate::kinds::{AS_PATH, MP_REACH_NLRI, NEXT_HOP, value_len};
 use crate::path::{Path, read_path};
 use fib_addr::Family;
 use octet_fields::{octet, octets};
-use wire_fields::Rule;
 
 /// What the attribute list of a RIB entry gives. Its next hops are the octets where they lie, since only one of them is used.
 #[derive(Clone, Copy, Debug)]
@@ -124,7 +124,7 @@ fn take_attribute<'a>(
 /// What the list as a whole gives.
 #[inline(always)]
 fn attrs_of<'a>(family: Family, found: &Found<'a>) -> RibAttrs<'a>
-    ensures { rib_listed_as family result ≡ listed (rib_found_as family found.now) }
+    ensures { rib_listed_as family result ≡ listed_from (rib_found_as family found.now) }
 {
     let path = found.path.unwrap_or(Path::empty());
     RibAttrs {

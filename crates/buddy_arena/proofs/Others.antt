@@ -1,6 +1,6 @@
 -- What else is out stays out.
 use Rattle.std.proofs.Common.{◌≡◌, ℕ, zero, suc, ◌+◌, ◌^◌, ◌≤◌, List, [], ◌∷◌, ◌++◌, take, drop, length, inl, inr, Bool, true, false, refl, sym, ap, ◌∙◌, subst, arith, replicate, nat_eq}
-use Rattle.buddy_arena.specs.Space.{Space, marked, blocks, num, empty, IsOut, Takes, OneEach, Apart}
+use Rattle.buddy_arena.specs.Space.{Space, marked, blocks, num, empty, IsOut, TakesBlock, OneEach, Apart}
 use Rattle.buddy_arena.proofs.Blocks.{blocks_whole, all_replicate}
 use Rattle.std.proofs.lemmas.List.{take_at}
 use Rattle.std.proofs.lemmas.Nat.{pow_pos}
@@ -21,7 +21,7 @@ marked_both v (suc p) i zero zero (b ∷ f) = refl
 marked_both v (suc p) i zero (suc n) (b ∷ f) = ap (λ r. v ∷ r) (marked_both v p i zero n f)
 marked_both v (suc p) i (suc q) n (b ∷ f) = ap (λ r. b ∷ r) (marked_both v p i q n f)
 
-pub still_out : (order : ℕ) (old new : List Bool) (place k p i : ℕ) → Takes order old new place k → IsOut order old p i → IsOut order new p i
+pub still_out : (order : ℕ) (old new : List Bool) (place k p i : ℕ) → TakesBlock order old new place k → IsOut order old p i → IsOut order new p i
 still_out order old new place k p i t o = record {
   aligned = o.aligned;
   small = o.small;
@@ -54,7 +54,7 @@ marked_apart_after (suc p) i (suc q) n (b ∷ f) h = ap (λ r. b ∷ r) (marked_
 pub one_whole : (n : ℕ) (f : List Bool) → f ≡ replicate (2 ^ n) true → OneEach (blocks n f)
 one_whole n f e i = subst (λ (x : ℕ). x ≤ 1) (sym (ap (num i) (blocks_whole n f (ap all_true e ∙ all_replicate (2 ^ n))))) (omega (arith, tick_le (nat_eq n i)))
 
-pub taken_apart : (order later : ℕ) (old new : List Bool) (q m p k : ℕ) → later ≡ order → length old ≡ 2 ^ order → Takes order old new q m → IsOut later new q m → IsOut order old p k → Apart p k q m
+pub taken_apart : (order later : ℕ) (old new : List Bool) (q m p k : ℕ) → later ≡ order → length old ≡ 2 ^ order → TakesBlock order old new q m → IsOut later new q m → IsOut order old p k → Apart p k q m
 taken_apart order later old new q m p k e l t n o = no_overlap p (2 ^ k) q (2 ^ m) old (pow_pos k) (pow_pos m) (omega (arith, l, o.within)) (omega (arith, l, ap (λ i. 2 ^ i) e, n.within)) o.out t.were
 
 -- what is out beside a block that is given back stays out

@@ -26,9 +26,9 @@ has_order m [] = false
 has_order m (b ∷ bs) = nat_eq b.0 m || has_order m bs
 
 -- the place of the first block of this order
-abbrev pub first_of : ℕ → List Free → ℕ
-first_of m [] = 0
-first_of m (b ∷ bs) = cond (nat_eq b.0 m) b.1 (first_of m bs)
+abbrev pub first_block : ℕ → List Free → ℕ
+first_block m [] = 0
+first_block m (b ∷ bs) = cond (nat_eq b.0 m) b.1 (first_block m bs)
 
 -- the list with n places from p on set to a value
 abbrev pub marked : ℕ → ℕ → Bool → List Bool → List Bool
@@ -95,8 +95,8 @@ abbrev pub Apart : ℕ → ℕ → ℕ → ℕ → Type 0
 Apart p k q m = (p + 2 ^ k ≤ q) ⊎ (q + 2 ^ m ≤ p)
 
 -- a block of order k is taken: the lower part of the lowest free block of the least order from k on
-pub record Takes (order : ℕ) (old new : List Bool) (place k : ℕ) : Type 0 where
-  pub chosen : (m : ℕ) × IsLeastFrom k m (blocks order old) × (place ≡ first_of m (blocks order old)) × Splits k m (blocks order old) (blocks order new)
+pub record TakesBlock (order : ℕ) (old new : List Bool) (place k : ℕ) : Type 0 where
+  pub chosen : (m : ℕ) × IsLeastFrom k m (blocks order old) × (place ≡ first_block m (blocks order old)) × Splits k m (blocks order old) (blocks order new)
   pub were : marked place (2 ^ k) true old ≡ old
   pub free : new ≡ marked place (2 ^ k) false old
 
@@ -105,18 +105,18 @@ abbrev pub empty : {T : Type 0} → ℕ → T → Space T
 empty n fill = record { order = n; free = replicate (2 ^ n) true; cells = replicate (2 ^ n) fill; fill = fill }
 
 -- how many places are free
-abbrev pub total : List Bool → ℕ
-total [] = 0
-total (b ∷ bs) = tick b + total bs
+abbrev pub free_count : List Bool → ℕ
+free_count [] = 0
+free_count (b ∷ bs) = tick b + free_count bs
 
 -- no order has two free blocks, as it is where nothing was given back
 abbrev pub OneEach : List Free → Type 0
 OneEach bs = (i : ℕ) → num i bs ≤ 1
 
 -- the blocks lie one after another from p to e: no two share a place
-abbrev pub Ascending : ℕ → ℕ → List Free → Type 0
-Ascending p e [] = p ≤ e
-Ascending p e (b ∷ bs) = (p ≤ b.1) × Ascending (b.1 + 2 ^ b.0) e bs
+abbrev pub LieInOrder : ℕ → ℕ → List Free → Type 0
+LieInOrder p e [] = p ≤ e
+LieInOrder p e (b ∷ bs) = (p ≤ b.1) × LieInOrder (b.1 + 2 ^ b.0) e bs
 
 -- whether a block is among the free ones
 abbrev pub has_block : ℕ → ℕ → List Free → Bool
@@ -130,5 +130,5 @@ NoBuddies bs = (o q : ℕ) → has_block o ((2 * q) * 2 ^ o) bs ≡ true → has
 -- the free blocks of an arena: aligned, disjoint, within it, and as many places as are free
 pub record AreBlocks (order : ℕ) (free : List Bool) : Type 0 where
   pub aligned : AllByRecursion (λ b. Aligned b.0 b.1 × (b.0 ≤ order)) (blocks order free)
-  pub apart : Ascending 0 (2 ^ order) (blocks order free)
+  pub apart : LieInOrder 0 (2 ^ order) (blocks order free)
   pub merged : NoBuddies (blocks order free)

@@ -2,8 +2,8 @@
 
 ghost use Rattle.std.specs.Prelude.{◌≡◌, ℕ, ◌+◌, ◌-◌, ◌*◌, ◌/◌, ◌^◌, ◌<◌, ◌≤◌, true, length, drop, OnErr, IfOk, IfErr, Option, slice_index_or, slice_set};
 ghost use Rattle.std.proofs.Common.{replicate};
-ghost use Rattle.buddy_arena.specs.Space.{blocks, marked, NoneFrom, IsGreatest, Space, IsOut, IsSized, Takes, empty, total, OneEach, Apart};
-ghost use Rattle.buddy_arena.specs.Masks.{ord, free_of, IsRight};
+ghost use Rattle.buddy_arena.specs.Space.{blocks, marked, NoneFrom, IsGreatest, Space, IsOut, IsSized, TakesBlock, empty, free_count, OneEach, Apart};
+ghost use Rattle.buddy_arena.specs.Masks.{ord, free_of, IsMaskTree};
 
 use crate::merges::give_to;
 use crate::region::{all_places, bare_masks, free_all, largest_in, make_all, whole_mask};
@@ -80,8 +80,8 @@ pub struct Arena<T: Copy> {
 impl<T: Copy> Model for Arena<T> {
     ghost use Rattle.std.specs.Prelude.{◌≡◌, ◌+◌, ◌-◌, ◌^◌, ◌<◌, ◌≤◌, length, drop};
     ghost use Rattle.std.proofs.Common.{replicate};
-    ghost use Rattle.buddy_arena.specs.Space.{Space, total};
-    ghost use Rattle.buddy_arena.specs.Masks.{ord, free_of, IsRight};
+    ghost use Rattle.buddy_arena.specs.Space.{Space, free_count};
+    ghost use Rattle.buddy_arena.specs.Masks.{ord, free_of, IsMaskTree};
 
     ghost Value = { Space T };
 
@@ -93,9 +93,9 @@ impl<T: Copy> Model for Arena<T> {
     } };
 
     ghost invariant = { λ a. (a.base ≤ 6) × (a.base + a.height < 31)
-        × IsRight a.base a.height a.masks.items
+        × IsMaskTree a.base a.height a.masks.items
         × (length a.cells.items ≡ 2 ^ ord a.base a.height)
-        × (a.left ≡ total (free_of a.base a.height a.masks.items))
+        × (a.left ≡ free_count (free_of a.base a.height a.masks.items))
         × (a.high ≤ 2 ^ ord a.base a.height)
         × (drop a.high a.cells.items ≡ replicate (2 ^ ord a.base a.height - a.high) a.fill) };
 }
@@ -152,7 +152,7 @@ impl<T: Copy> Arena<T> {
     /// No free block is large enough. The arena is unchanged.
     pub fn take(&mut self, order: u8) -> Result<Block, Full>
         ensures ok { IfOk result (λ b. (b.order ≡ order)
-            × Takes self.old.order self.old.free self.new.free b.place order) }
+            × TakesBlock self.old.order self.old.free self.new.free b.place order) }
         ensures out { IfOk result (λ b. IsOut self.new.order self.new.free b.place order) }
         ensures full { IfErr result (λ e. (e.order ≡ order)
             × NoneFrom order (blocks self.old.order self.old.free)
@@ -163,8 +163,8 @@ impl<T: Copy> Arena<T> {
         ensures fresh { OneEach (blocks self.old.order self.old.free)
             → OneEach (blocks self.new.order self.new.free) }
         ensures few { OnErr result (OneEach (blocks self.old.order self.old.free)
-            → total self.old.free < 2 ^ order) }
-        ensures left { IfOk result (λ b. total self.new.free + 2 ^ order ≡ total self.old.free) }
+            → free_count self.old.free < 2 ^ order) }
+        ensures left { IfOk result (λ b. free_count self.new.free + 2 ^ order ≡ free_count self.old.free) }
         ensures apart { IfOk result (λ b. (p k : ℕ) → IsOut self.old.order self.old.free p k
             → Apart p k b.place order) }
         ensures still { (p k : ℕ) → IsOut self.old.order self.old.free p k
@@ -189,7 +189,7 @@ impl<T: Copy> Arena<T> {
 
     /// How many places are free.
     pub fn free_total(&self) -> u64
-        ensures { result ≡ total self.now.free }
+        ensures { result ≡ free_count self.now.free }
     {
         self.left
     }

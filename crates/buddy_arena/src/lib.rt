@@ -6,11 +6,18 @@
 #![tactic(auto)]
 
 mod arena;
+mod blocks;
+mod giving;
 mod laws;
 mod merges;
+mod places;
+mod pool_laws;
 mod region;
 mod splits;
 mod word;
 
 pub use arena::{Arena, Block, Full};
+pub use blocks::{Blocks, Refused};
 pub use laws::blocks_law;
+pub use places::{block_size, order_for, put, take_places};
+pub use pool_laws::up_law;

@@ -1,8 +1,8 @@
 //! Giving back: a block merges with its buddy as long as that is free.
 
 ghost use Rattle.std.specs.Prelude.{◌≡◌, ℕ, suc, ◌+◌, ◌-◌, ◌*◌, ◌/◌, ◌^◌, ◌<◌, ◌≤◌, true, false, ◌++◌};
-ghost use Rattle.buddy_arena.specs.Space.{marked, Aligned, IsOut, total, Apart};
-ghost use Rattle.buddy_arena.specs.Masks.{ord, root, free_of, IsRight, AreRight, free_parts};
+ghost use Rattle.buddy_arena.specs.Space.{marked, Aligned, IsOut, free_count, Apart};
+ghost use Rattle.buddy_arena.specs.Masks.{ord, whole_arena, free_of, IsMaskTree, AreRight, free_parts};
 
 use crate::arena::Block;
 use crate::region::{make_bare, make_whole, mask_of, places_of, whole_mask};
@@ -10,7 +10,7 @@ use crate::word::span;
 
 /// Puts a region together from its halves, which merge where both are free as a whole.
 fn rejoin(root: &mut u64, low: &mut [u64], high: &mut [u64], at: u8, base: u8)
-    requires right { IsRight base at low.old × IsRight base at high.old }
+    requires right { IsMaskTree base at low.old × IsMaskTree base at high.old }
     requires few { (base ≤ 6) × (base + at < 30) }
     ensures right { AreRight base at root.new low.new high.new }
     ensures free { free_parts base at root.new low.new high.new
@@ -31,13 +31,13 @@ fn rejoin(root: &mut u64, low: &mut [u64], high: &mut [u64], at: u8, base: u8)
 /// Gives a block of a region back. It merges with its buddy as long as that is free.
 #[cycle(restore)]
 fn restore(s: &mut [u64], height: u8, base: u8, place: u32, k: u8)
-    requires right { IsRight base height s.old }
+    requires right { IsMaskTree base height s.old }
     requires orders { (k ≤ base + height) × (base ≤ 6) × (base + height < 31) }
     requires aligned { Aligned k place }
     requires within { place + 2 ^ k ≤ 2 ^ ord base height }
     requires out { marked place (2 ^ k) false (free_of base height s.old)
         ≡ free_of base height s.old }
-    ensures right { IsRight base height s.new }
+    ensures right { IsMaskTree base height s.new }
     ensures free { free_of base height s.new
         ≡ marked place (2 ^ k) true (free_of base height s.old) }
 {
@@ -87,18 +87,18 @@ fn restore_parts(
 }
 
 pub(crate) fn give_to(masks: &mut [u64], height: u8, base: u8, block: Block)
-    requires right { IsRight base height masks.old }
+    requires right { IsMaskTree base height masks.old }
     requires few { (base ≤ 6) × (base + height < 31) }
     requires out { IsOut (ord base height) (free_of base height masks.old) block.place block.order }
-    ensures right { IsRight base height masks.new }
+    ensures right { IsMaskTree base height masks.new }
     ensures free { free_of base height masks.new
         ≡ marked block.place (2 ^ block.order) true (free_of base height masks.old) }
     ensures still { (p k : ℕ) → IsOut (ord base height) (free_of base height masks.old) p k
         → Apart p k block.place block.order
         → IsOut (ord base height) (free_of base height masks.new) p k }
-    ensures total { total (free_of base height masks.new)
-        ≡ total (free_of base height masks.old) + 2 ^ block.order }
-    ensures small { total (free_of base height masks.new) < 2 ^ 32 }
+    ensures total { free_count (free_of base height masks.new)
+        ≡ free_count (free_of base height masks.old) + 2 ^ block.order }
+    ensures small { free_count (free_of base height masks.new) < 2 ^ 32 }
     ensures few { block.order < 31 }
 {
     restore(masks, height, base, block.place, block.order);

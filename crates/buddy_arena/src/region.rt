@@ -6,9 +6,9 @@
 
 ghost use Rattle.std.specs.Prelude.{◌≡◌, ◌+◌, ◌-◌, ◌*◌, ◌/◌, ◌^◌, ◌<◌, ◌≤◌, true, false, IfOk, Option};
 ghost use Rattle.std.proofs.Common.{replicate};
-ghost use Rattle.buddy_arena.specs.Space.{blocks, IsGreatest, Takes, total};
+ghost use Rattle.buddy_arena.specs.Space.{blocks, IsGreatest, TakesBlock, free_count};
 ghost use Rattle.buddy_arena.specs.Tops.{IsTopBelow};
-ghost use Rattle.buddy_arena.specs.Masks.{ord, size, root, mask, free_of, IsRight, AreRight, whole_cell};
+ghost use Rattle.buddy_arena.specs.Masks.{ord, size, whole_arena, mask, free_of, IsMaskTree, AreRight, whole_cell};
 
 use crate::word::{ones, orders};
 use std::alloc::{AllocError, Global};
@@ -42,7 +42,7 @@ pub(crate) fn all_places(height: u8, base: u8) -> u64
 
 /// The mask of a region, `height` levels above its words of 2 ^ base places.
 pub(crate) fn mask_of(s: &[u64], height: u8, base: u8) -> u64
-    requires right { IsRight base height s.now }
+    requires right { IsMaskTree base height s.now }
     requires few { base ≤ 6 }
     ensures { result ≡ mask base height s.now }
 {
@@ -65,10 +65,10 @@ fn cell_of_whole(height: u8, base: u8) -> u64
 
 /// Frees all of a region of which nothing is free.
 pub(crate) fn make_whole(s: &mut [u64], height: u8, base: u8)
-    requires right { IsRight base height s.old }
+    requires right { IsMaskTree base height s.old }
     requires bare { mask base height s.old ≡ 0 }
     requires few { (base ≤ 6) × (base + height < 32) }
-    ensures right { IsRight base height s.new }
+    ensures right { IsMaskTree base height s.new }
     ensures root { mask base height s.new ≡ 2 ^ ord base height }
     ensures free { free_of base height s.new ≡ replicate (2 ^ ord base height) true }
 {
@@ -78,9 +78,9 @@ pub(crate) fn make_whole(s: &mut [u64], height: u8, base: u8)
 /// Takes all of a region that is free as a whole.
 #[tactic(auto, using(crate::proofs::Steps::made_bare, crate::proofs::Steps::some_masks))]
 pub(crate) fn make_bare(s: &mut [u64], height: u8, base: u8)
-    requires right { IsRight base height s.old }
+    requires right { IsMaskTree base height s.old }
     requires bare { mask base height s.old ≡ 2 ^ ord base height }
-    ensures right { IsRight base height s.new }
+    ensures right { IsMaskTree base height s.new }
     ensures root { mask base height s.new ≡ 0 }
     ensures free { free_of base height s.new ≡ replicate (2 ^ ord base height) false }
 {
@@ -90,9 +90,9 @@ pub(crate) fn make_bare(s: &mut [u64], height: u8, base: u8)
 /// Takes all that is free in a region, in the time of the regions that aren't free or taken as a whole.
 #[cycle(wipe)]
 fn wipe(s: &mut [u64], height: u8, base: u8)
-    requires right { IsRight base height s.old }
+    requires right { IsMaskTree base height s.old }
     requires few { base + height < 31 }
-    ensures right { IsRight base height s.new }
+    ensures right { IsMaskTree base height s.new }
     ensures bare { mask base height s.new ≡ 0 }
 {
     if height == 0 {
@@ -142,7 +142,7 @@ fn top_below(root: u64, below: u8) -> Option<u8>
 }
 
 pub(crate) fn largest_in(masks: &[u64], height: u8, base: u8) -> Option<u8>
-    requires right { IsRight base height masks.now }
+    requires right { IsMaskTree base height masks.now }
     requires few { (base ≤ 6) × (base + height < 31) }
     ensures { IsGreatest result (blocks (ord base height) (free_of base height masks.now)) }
 {
@@ -152,7 +152,7 @@ pub(crate) fn largest_in(masks: &[u64], height: u8, base: u8) -> Option<u8>
 #[tactic(auto, using(crate::proofs::Calls::bare_cells, crate::proofs::Calls::bare_mask, crate::proofs::Calls::bare_len))]
 pub(crate) fn bare_masks(alloc: Global, height: u8, base: u8) -> Result<Vec<u64>, AllocError>
     requires { height ≤ 26 }
-    ensures right { IfOk result (λ v. IsRight base height v.items) }
+    ensures right { IfOk result (λ v. IsMaskTree base height v.items) }
     ensures bare { IfOk result (λ v. mask base height v.items ≡ 0) }
 {
     let len = (1 << (height + 1)) - 1;
@@ -161,22 +161,22 @@ pub(crate) fn bare_masks(alloc: Global, height: u8, base: u8) -> Result<Vec<u64>
 
 #[tactic(auto, using(crate::proofs::Totals::whole_total))]
 pub(crate) fn make_all(masks: &mut [u64], height: u8, base: u8)
-    requires right { IsRight base height masks.old }
+    requires right { IsMaskTree base height masks.old }
     requires bare { mask base height masks.old ≡ 0 }
     requires few { (base ≤ 6) × (base + height < 32) }
-    ensures right { IsRight base height masks.new }
+    ensures right { IsMaskTree base height masks.new }
     ensures free { free_of base height masks.new ≡ replicate (2 ^ ord base height) true }
-    ensures total { total (free_of base height masks.new) ≡ 2 ^ ord base height }
+    ensures total { free_count (free_of base height masks.new) ≡ 2 ^ ord base height }
 {
     make_whole(masks, height, base)
 }
 
 pub(crate) fn free_all(masks: &mut [u64], height: u8, base: u8)
-    requires right { IsRight base height masks.old }
+    requires right { IsMaskTree base height masks.old }
     requires few { (base ≤ 6) × (base + height < 31) }
-    ensures right { IsRight base height masks.new }
+    ensures right { IsMaskTree base height masks.new }
     ensures free { free_of base height masks.new ≡ replicate (2 ^ ord base height) true }
-    ensures total { total (free_of base height masks.new) ≡ 2 ^ ord base height }
+    ensures total { free_count (free_of base height masks.new) ≡ 2 ^ ord base height }
 {
     wipe(masks, height, base);
     make_all(masks, height, base)

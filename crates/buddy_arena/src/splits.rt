@@ -2,8 +2,8 @@
 //! that is wanted; the upper halves stay free.
 
 ghost use Rattle.std.specs.Prelude.{◌≡◌, ℕ, suc, ◌+◌, ◌-◌, ◌*◌, ◌/◌, ◌^◌, ◌<◌, ◌≤◌, true, false, OnErr, IfOk, IfErr};
-ghost use Rattle.buddy_arena.specs.Space.{blocks, has_order, first_of, marked, NoneFrom, IsGreatest, IsOut, Takes, total, OneEach, Apart};
-ghost use Rattle.buddy_arena.specs.Masks.{ord, root, free_of, IsRight, AreRight, free_parts};
+ghost use Rattle.buddy_arena.specs.Space.{blocks, has_order, first_block, marked, NoneFrom, IsGreatest, IsOut, TakesBlock, free_count, OneEach, Apart};
+ghost use Rattle.buddy_arena.specs.Masks.{ord, whole_arena, free_of, IsMaskTree, AreRight, free_parts};
 
 use crate::arena::{Block, Full};
 use crate::region::{largest_in, make_whole, mask_of, places_of, whole_mask};
@@ -12,11 +12,11 @@ use crate::word::{first_place, span};
 /// Takes the lower part of order `k` of the lowest free block of order `m` in a region.
 #[cycle(carve)]
 fn carve(s: &mut [u64], height: u8, base: u8, m: u8, k: u8) -> u32
-    requires right { IsRight base height s.old }
+    requires right { IsMaskTree base height s.old }
     requires orders { (k ≤ m) × (base ≤ 6) × (base + height < 31) }
     requires has { has_order m (blocks (ord base height) (free_of base height s.old)) ≡ true }
-    ensures right { IsRight base height s.new }
-    ensures place { result ≡ first_of m (blocks (ord base height) (free_of base height s.old)) }
+    ensures right { IsMaskTree base height s.new }
+    ensures place { result ≡ first_block m (blocks (ord base height) (free_of base height s.old)) }
     ensures within { result + 2 ^ k ≤ 2 ^ ord base height }
     ensures free { free_of base height s.new
         ≡ marked result (2 ^ k) false (free_of base height s.old) }
@@ -49,7 +49,7 @@ fn carve_parts(
     requires has { has_order m (blocks (suc (ord base at))
         (free_parts base at root.old low.old high.old)) ≡ true }
     ensures right { AreRight base at root.new low.new high.new }
-    ensures place { result ≡ first_of m (blocks (suc (ord base at))
+    ensures place { result ≡ first_block m (blocks (suc (ord base at))
         (free_parts base at root.old low.old high.old)) }
     ensures within { result + 2 ^ k ≤ 2 ^ suc (ord base at) }
     ensures free { free_parts base at root.new low.new high.new
@@ -85,11 +85,11 @@ fn carve_parts(
 }
 
 pub(crate) fn take_from(masks: &mut [u64], height: u8, base: u8, order: u8) -> Result<Block, Full>
-    requires right { IsRight base height masks.old }
+    requires right { IsMaskTree base height masks.old }
     requires few { (base ≤ 6) × (base + height < 31) }
-    ensures right { IsRight base height masks.new }
+    ensures right { IsMaskTree base height masks.new }
     ensures ok { IfOk result (λ d. (d.order ≡ order)
-        × Takes (ord base height) (free_of base height masks.old)
+        × TakesBlock (ord base height) (free_of base height masks.old)
         (free_of base height masks.new) d.place order) }
     ensures out { IfOk result (λ d. IsOut (ord base height)
         (free_of base height masks.new) d.place order) }
@@ -98,12 +98,12 @@ pub(crate) fn take_from(masks: &mut [u64], height: u8, base: u8, order: u8) -> R
         × IsGreatest e.largest (blocks (ord base height) (free_of base height masks.old))) }
     ensures err { OnErr result (masks.new ≡ masks.old) }
     ensures total { IfOk result (λ d. (order < 31)
-        × (total (free_of base height masks.new) + 2 ^ order
-        ≡ total (free_of base height masks.old))) }
+        × (free_count (free_of base height masks.new) + 2 ^ order
+        ≡ free_count (free_of base height masks.old))) }
     ensures fresh { OneEach (blocks (ord base height) (free_of base height masks.old))
         → OneEach (blocks (ord base height) (free_of base height masks.new)) }
     ensures few { OnErr result (OneEach (blocks (ord base height)
-        (free_of base height masks.old)) → total (free_of base height masks.old) < 2 ^ order) }
+        (free_of base height masks.old)) → free_count (free_of base height masks.old) < 2 ^ order) }
     ensures apart { IfOk result (λ d. (p i : ℕ)
         → IsOut (ord base height) (free_of base height masks.old) p i
         → Apart p i d.place order) }

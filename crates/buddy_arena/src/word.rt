@@ -4,7 +4,7 @@
 
 ghost use Rattle.std.specs.Prelude.{◌≡◌, ℕ, ◌+◌, ◌-◌, ◌*◌, ◌/◌, ◌%◌, ◌^◌, ◌<◌, ◌≤◌, true, nat_eq};
 ghost use Rattle.std.specs.Int.{bit_at};
-ghost use Rattle.buddy_arena.specs.Space.{blocks, has_order, first_of};
+ghost use Rattle.buddy_arena.specs.Space.{blocks, has_order, first_block};
 ghost use Rattle.buddy_arena.specs.Words.{word_free};
 ghost use Rattle.buddy_arena.specs.Masks.{orders_of};
 
@@ -74,7 +74,7 @@ pub(crate) fn first_place(w: u64, k: u8, m: u8) -> u32
     requires fits { w < 2 ^ (2 ^ k) }
     requires small { m ≤ 6 }
     requires there { has_order m (blocks k (word_free k w)) ≡ true }
-    ensures place { result ≡ first_of m (blocks k (word_free k w)) }
+    ensures place { result ≡ first_block m (blocks k (word_free k w)) }
     ensures within { result < 2 ^ k }
 {
     if w == ones(k) {

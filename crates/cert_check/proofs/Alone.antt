@@ -5,7 +5,7 @@ use Rattle.table_model.specs.Bits.{bits_of}
 use Rattle.table_model.specs.Table.{Entry as ModelEntry}
 use Rattle.cert_check.specs.declared.runs.Run.{Run}
 use Rattle.cert_check.specs.declared.runs.Part.{Part}
-use Rattle.cert_check.specs.Runs.{part_as, table_of, Noted, Swept}
+use Rattle.cert_check.specs.Runs.{part_as, parts_table, Noted, Swept}
 use Rattle.cert_check.proofs.Deals.{taken, own_stays, half_stays_low, half_stays_high, half_grows_low, half_grows_high}
 use Rattle.cert_check.proofs.Sweeps.{swept_one, swept_none, swept_address, swept_region, first_hop}
 
@@ -37,7 +37,7 @@ alone_low d at start next h part rest old mid new some is step filled r bit swep
     (half_grows_low at [] (rest ∷ []) _ part.bits (part.len - 1) part.hop (ap (λ (x : Part). x ∷ []) r) p) (half_stays_high at [] _ _ part.hop p) refl swept (swept_none at h next mid new noted)
 
 -- the list has this part alone
-pub one_part : (d : ℕ) (parts : List Part) (part z : Part) → length parts ≡ 1 → part ≡ get_or parts 0 z → part_as d part ∷ [] ≡ table_of d parts
+pub one_part : (d : ℕ) (parts : List Part) (part z : Part) → length parts ≡ 1 → part ≡ get_or parts 0 z → part_as d part ∷ [] ≡ parts_table d parts
 one_part d [] part z e is = absurd (omega arith)
 one_part d (p ∷ []) part z e is = ap (λ (x : Part). part_as d x ∷ []) is
 one_part d (p ∷ q ∷ parts) part z e is = absurd (omega arith)

@@ -15,9 +15,9 @@ use Rattle.fib_addr.specs.Views.{entry_as}
 use Rattle.cert_model.specs.declared.row.Row.{Row}
 use Rattle.cert_model.specs.declared.row.Row.TheVariants as row
 use Rattle.cert_model.specs.Views.{row_as}
-use Rattle.packed_rows.specs.declared.packed.PackedRow.{PackedRow}
-use Rattle.packed_rows.specs.Views.{packed_as}
-use Rattle.packed_rows.proofs.Fits.{packed_fits}
+use Rattle.cert_model.specs.declared.packed.PackedRow.{PackedRow}
+use Rattle.cert_model.specs.PackedViews.{packed_as}
+use Rattle.cert_model.proofs.Fits.{packed_fits}
 use Rattle.cert_check.proofs.Deals.{family_next}
 use Rattle.cert_check.proofs.Holding.{prefix_short}
 

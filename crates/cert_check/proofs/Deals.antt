@@ -15,7 +15,7 @@ use Rattle.table_model.proofs.Join.{half_append}
 use Rattle.fib_addr.specs.Views.{entry_as}
 use Rattle.fib_addr.specs.declared.entry.Entry as code
 use Rattle.cert_check.specs.declared.runs.Part.{Part}
-use Rattle.cert_check.specs.Runs.{part_as, table_of}
+use Rattle.cert_check.specs.Runs.{part_as, parts_table}
 
 -- ---- the bits of a part
 
@@ -39,8 +39,8 @@ module _ {X Y : Type 0} (f : X → Y) where
   take_next (y ∷ xs) zero x z h e = ap (λ a. f a ∷ []) (sym e)
   take_next (y ∷ xs) (suc i) x z h e = let g : suc i + 1 ≡ suc (i + 1) = omega arith in ap (λ j. map f (take j (y ∷ xs))) g ∙ ap (λ ys. f y ∷ ys) (take_next xs i x z (omega arith) e)
 
-no_more : (d : ℕ) (parts : List Part) → table_of d parts ≡ table_of d parts ++ []
-no_more d parts = sym (append-nil (table_of d parts))
+no_more : (d : ℕ) (parts : List Part) → parts_table d parts ≡ parts_table d parts ++ []
+no_more d parts = sym (append-nil (parts_table d parts))
 
 own_kept : (own : Option ℕ) → own ≡ option_or own None
 own_kept None = refl
@@ -49,21 +49,21 @@ own_kept (Some h) = refl
 pub own_stays : (own : Option ℕ) (b : Bool) (p q : List Bool) (hop : ℕ) → p ≡ b ∷ q → own ≡ option_or own (root_of p hop None)
 own_stays own b p q hop e = own_kept own ∙ ap (λ x. option_or own (root_of x hop None)) (sym e)
 
-pub half_stays_low : (d : ℕ) (parts : List Part) (p q : List Bool) (hop : ℕ) → p ≡ true ∷ q → table_of d parts ≡ table_of d parts ++ half_of false p hop []
-half_stays_low d parts p q hop e = no_more d parts ∙ ap (λ x. table_of d parts ++ half_of false x hop []) (sym e)
+pub half_stays_low : (d : ℕ) (parts : List Part) (p q : List Bool) (hop : ℕ) → p ≡ true ∷ q → parts_table d parts ≡ parts_table d parts ++ half_of false p hop []
+half_stays_low d parts p q hop e = no_more d parts ∙ ap (λ x. parts_table d parts ++ half_of false x hop []) (sym e)
 
-pub half_stays_high : (d : ℕ) (parts : List Part) (p q : List Bool) (hop : ℕ) → p ≡ false ∷ q → table_of d parts ≡ table_of d parts ++ half_of true p hop []
-half_stays_high d parts p q hop e = no_more d parts ∙ ap (λ x. table_of d parts ++ half_of true x hop []) (sym e)
+pub half_stays_high : (d : ℕ) (parts : List Part) (p q : List Bool) (hop : ℕ) → p ≡ false ∷ q → parts_table d parts ≡ parts_table d parts ++ half_of true p hop []
+half_stays_high d parts p q hop e = no_more d parts ∙ ap (λ x. parts_table d parts ++ half_of true x hop []) (sym e)
 
 pub half_grows_high : (d : ℕ) (old new : List Part) (p : List Bool) (bits len hop : ℕ) → new ≡ old ++ record { bits = bits; len = len; hop = hop } ∷ [] → p ≡ true ∷ take len (bits_of d bits)
-    → table_of d new ≡ table_of d old ++ half_of true p hop []
+    → parts_table d new ≡ parts_table d old ++ half_of true p hop []
 half_grows_high d old new p bits len hop e f =
-    ap (table_of d) e ∙ (map_push (part_as d) old (record { bits = bits; len = len; hop = hop }) ∙ ap (λ x. table_of d old ++ half_of true x hop []) (sym f))
+    ap (parts_table d) e ∙ (map_push (part_as d) old (record { bits = bits; len = len; hop = hop }) ∙ ap (λ x. parts_table d old ++ half_of true x hop []) (sym f))
 
 pub half_grows_low : (d : ℕ) (old new : List Part) (p : List Bool) (bits len hop : ℕ) → new ≡ old ++ record { bits = bits; len = len; hop = hop } ∷ [] → p ≡ false ∷ take len (bits_of d bits)
-    → table_of d new ≡ table_of d old ++ half_of false p hop []
+    → parts_table d new ≡ parts_table d old ++ half_of false p hop []
 half_grows_low d old new p bits len hop e f =
-    ap (table_of d) e ∙ (map_push (part_as d) old (record { bits = bits; len = len; hop = hop }) ∙ ap (λ x. table_of d old ++ half_of false x hop []) (sym f))
+    ap (parts_table d) e ∙ (map_push (part_as d) old (record { bits = bits; len = len; hop = hop }) ∙ ap (λ x. parts_table d old ++ half_of false x hop []) (sym f))
 
 -- ---- parts one after another
 
@@ -75,15 +75,15 @@ root_push (x ∷ L) e = by_prefix x.prefix (root_push L e)
     by_prefix [] ih = refl
     by_prefix (b ∷ p) ih = ih
 
-pub own_next : (d i : ℕ) (parts : List Part) (part z : Part) (own new : Option ℕ) → i < length parts → part ≡ get_or parts i z → own ≡ root (table_of d (take i parts))
-    → new ≡ option_or own (root (part_as d part ∷ [])) → new ≡ root (table_of d (take (i + 1) parts))
+pub own_next : (d i : ℕ) (parts : List Part) (part z : Part) (own new : Option ℕ) → i < length parts → part ≡ get_or parts i z → own ≡ root (parts_table d (take i parts))
+    → new ≡ option_or own (root (part_as d part ∷ [])) → new ≡ root (parts_table d (take (i + 1) parts))
 own_next d i parts part z own new lt is e f =
-    f ∙ (ap (λ x. option_or x (root (part_as d part ∷ []))) e ∙ (sym (root_push (table_of d (take i parts)) (part_as d part)) ∙ ap root (sym (take_next (part_as d) parts i part z lt is))))
+    f ∙ (ap (λ x. option_or x (root (part_as d part ∷ []))) e ∙ (sym (root_push (parts_table d (take i parts)) (part_as d part)) ∙ ap root (sym (take_next (part_as d) parts i part z lt is))))
 
-pub half_next : (b : Bool) (d i : ℕ) (parts : List Part) (part z : Part) (old new : Table) → i < length parts → part ≡ get_or parts i z → old ≡ half b (table_of d (take i parts))
-    → new ≡ old ++ half b (part_as d part ∷ []) → new ≡ half b (table_of d (take (i + 1) parts))
+pub half_next : (b : Bool) (d i : ℕ) (parts : List Part) (part z : Part) (old new : Table) → i < length parts → part ≡ get_or parts i z → old ≡ half b (parts_table d (take i parts))
+    → new ≡ old ++ half b (part_as d part ∷ []) → new ≡ half b (parts_table d (take (i + 1) parts))
 half_next b d i parts part z old new lt is e f =
-    f ∙ (ap (λ x. x ++ half b (part_as d part ∷ [])) e ∙ (sym (half_append b (table_of d (take i parts)) (part_as d part ∷ [])) ∙ ap (half b) (sym (take_next (part_as d) parts i part z lt is))))
+    f ∙ (ap (λ x. x ++ half b (part_as d part ∷ [])) e ∙ (sym (half_append b (parts_table d (take i parts)) (part_as d part ∷ [])) ∙ ap (half b) (sym (take_next (part_as d) parts i part z lt is))))
 
 -- ---- the entries of a family
 
@@ -101,19 +101,19 @@ pub family_next : (f : Family) (entries : List code.Entry) (i : ℕ) (e : code.E
 family_next f entries i e lt is = ap (of_family f) (take_next entry_as entries i e e lt is) ∙ family_push f (map entry_as (take i entries)) (entry_as e ∷ [])
 
 pub other_family : (f : Family) (entries : List code.Entry) (i : ℕ) (e : code.Entry) (old new : List Part) → i < length entries → e ≡ get_or entries i e → same_family f e.prefix.family ≡ false
-    → table_of (width f) old ≡ of_family f (map entry_as (take i entries)) → new ≡ old → table_of (width f) new ≡ of_family f (map entry_as (take (i + 1) entries))
+    → parts_table (width f) old ≡ of_family f (map entry_as (take i entries)) → new ≡ old → parts_table (width f) new ≡ of_family f (map entry_as (take (i + 1) entries))
 other_family f entries i e old new lt is apart so_far same =
-    ap (table_of (width f)) same ∙ (so_far ∙ (sym (append-nil (of_family f (map entry_as (take i entries))))
+    ap (parts_table (width f)) same ∙ (so_far ∙ (sym (append-nil (of_family f (map entry_as (take i entries))))
     ∙ (ap (λ x. of_family f (map entry_as (take i entries)) ++ x) (sym (cond-false (same_family f e.prefix.family) _ _ apart)) ∙ sym (family_next f entries i e lt is))))
 
 pub this_family : (f : Family) (entries : List code.Entry) (i : ℕ) (e : code.Entry) (old new : List Part) → i < length entries → e ≡ get_or entries i e → same_family f e.prefix.family ≡ true
-    → table_of (width f) old ≡ of_family f (map entry_as (take i entries)) → new ≡ old ++ record { bits = e.prefix.bits; len = e.prefix.len; hop = e.hop.0 } ∷ []
-    → table_of (width f) new ≡ of_family f (map entry_as (take (i + 1) entries))
+    → parts_table (width f) old ≡ of_family f (map entry_as (take i entries)) → new ≡ old ++ record { bits = e.prefix.bits; len = e.prefix.len; hop = e.hop.0 } ∷ []
+    → parts_table (width f) new ≡ of_family f (map entry_as (take (i + 1) entries))
 this_family f entries i e old new lt is one_family so_far grown =
     let part : Part = record { bits = e.prefix.bits; len = e.prefix.len; hop = e.hop.0 } in
     let one : of_family f (entry_as e ∷ []) ≡ part_as (width f) part ∷ [] =
     cond-true (same_family f e.prefix.family) _ _ one_family
     ∙ ap (λ g. let x : ModelEntry = record { prefix = take e.prefix.len (bits_of (width g) e.prefix.bits); hop = e.hop.0 } in x ∷ []) (sym (same_family_is f e.prefix.family one_family))
     in
-    ap (table_of (width f)) grown ∙ (map_push (part_as (width f)) old part
+    ap (parts_table (width f)) grown ∙ (map_push (part_as (width f)) old part
     ∙ (ap (λ x. x ++ part_as (width f) part ∷ []) so_far ∙ (ap (λ x. of_family f (map entry_as (take i entries)) ++ x) (sym one) ∙ sym (family_next f entries i e lt is))))

@@ -22,7 +22,7 @@ use Rattle.fib_addr.specs.declared.prefix.Prefix.{Prefix}
 use Rattle.fib_addr.specs.Views.{prefix_as}
 use Rattle.fib_addr.proofs.Parts.{length_prefix}
 use Rattle.cert_check.specs.declared.runs.Run.{Run}
-use Rattle.cert_check.specs.Runs.{run_hop_at, last_hop, AreRuns, IsBegun, RunsTell}
+use Rattle.cert_check.specs.Runs.{run_hop_at, last_hop, AreRuns, CountsBegun, RunsTell}
 use Rattle.cert_check.proofs.Sweeps.{from_run, from_append, before_all}
 use Rattle.cert_check.proofs.Aparts.{split_at, take_one_more, other_hop, at_start, later_starts, all_after, number_bits, number_lt}
 
@@ -60,7 +60,7 @@ in_list [] j y z lt = absurd (omega arith)
 in_list (r ∷ runs) zero y z lt = refl
 in_list (r ∷ runs) (suc j) y z lt = in_list runs j y z (omega arith)
 
-pub begun_at : (n : ℕ) (runs : List Run) (i : ℕ) → i ≤ length runs → IsPartitionPoint (λ (r : Run). nat_le r.start n ≡ true) (λ (r : Run). nat_le r.start n ≡ false) runs i → IsBegun n runs i
+pub begun_at : (n : ℕ) (runs : List Run) (i : ℕ) → i ≤ length runs → IsPartitionPoint (λ (r : Run). nat_le r.start n ≡ true) (λ (r : Run). nat_le r.start n ≡ false) runs i → CountsBegun n runs i
 begun_at n runs i le w = (
   all_by (λ (r : Run). nat_le r.start n ≡ true) (λ (r : Run). r.start ≤ n) (λ r e. leb-true r.start n e) (take i runs) (taken (λ (r : Run). nat_le r.start n ≡ true) runs i le w.0),
   all_by (λ (r : Run). nat_le r.start n ≡ false) (λ (r : Run). n < r.start) (λ r e. leb-false r.start n e) (drop i runs) (dropped (λ (r : Run). nat_le r.start n ≡ false) runs i w.1),
@@ -186,7 +186,7 @@ more_le m n [] le a = tt
 more_le m n (r ∷ runs) le a = (omega (arith, a.0), more_le m n runs le a.1)
 
 -- before the next run begins, the last run's hop counts
-until_next : (runs : List Run) (i b n : ℕ) → IsBegun b runs i → b ≤ n → AllByRecursion (λ (r : Run). n < r.start) (drop i runs) → run_hop_at runs n ≡ last_hop (take i runs)
+until_next : (runs : List Run) (i b n : ℕ) → CountsBegun b runs i → b ≤ n → AllByRecursion (λ (r : Run). n < r.start) (drop i runs) → run_hop_at runs n ≡ last_hop (take i runs)
 until_next runs i b n g le a =
     in_two runs i n ∙ (before_all (drop i runs) n (from_run (take i runs) n 0) a ∙ past_le (take i runs) n 0 (more_le b n (take i runs) le g.0))
 
@@ -197,10 +197,10 @@ all_of_empty n i runs e = subst (λ (j : ℕ). AllByRecursion (λ (r : Run). n <
     none [] = tt
     none (r ∷ rs) = none rs
 
-pub holds_to_end : (runs : List Run) (i b u h : ℕ) → IsBegun b runs i → i ≡ length runs → last_hop (take i runs) ≡ h → AllNumbers runs b u h
+pub holds_to_end : (runs : List Run) (i b u h : ℕ) → CountsBegun b runs i → i ≡ length runs → last_hop (take i runs) ≡ h → AllNumbers runs b u h
 holds_to_end runs i b u h g e l v lt = until_next runs i b (b + v) g (omega arith) (all_of_empty (b + v) i runs e) ∙ l
 
-pub holds_to_next : (runs : List Run) (i b u h : ℕ) (x z : Run) → AreRuns 0 runs → IsBegun b runs i → i < length runs → x ≡ get_or runs i z → b + 2 ^ u ≤ x.start → last_hop (take i runs) ≡ h → AllNumbers runs b u h
+pub holds_to_next : (runs : List Run) (i b u h : ℕ) (x z : Run) → AreRuns 0 runs → CountsBegun b runs i → i < length runs → x ≡ get_or runs i z → b + 2 ^ u ≤ x.start → last_hop (take i runs) ≡ h → AllNumbers runs b u h
 holds_to_next runs i b u h x z r g lt is past l v small =
     let whole : runs ≡ take i runs ++ x ∷ drop (suc i) runs = split_at runs i x z lt is in
     let rest : drop i runs ≡ x ∷ drop (suc i) runs = drop-cons runs i z lt ∙ ap (λ y. y ∷ drop (suc i) runs) (sym is) in
@@ -208,12 +208,12 @@ holds_to_next runs i b u h x z r g lt is past l v small =
     let later = later_starts 0 (take i runs) (drop (suc i) runs) x (subst (AreRuns 0) whole r) in
     until_next runs i b (b + v) g (omega arith) (subst (AllByRecursion (λ (s : Run). b + v < s.start)) (sym rest) (n, all_after (b + v) x.start (drop (suc i) runs) n later)) ∙ l
 
-pub first_hop_is : (runs : List Run) (i b u h : ℕ) → IsBegun b runs i → AllNumbers runs b u h → last_hop (take i runs) ≡ h
+pub first_hop_is : (runs : List Run) (i b u h : ℕ) → CountsBegun b runs i → AllNumbers runs b u h → last_hop (take i runs) ≡ h
 first_hop_is runs i b u h g a =
     let z : b + 0 ≡ b = omega arith in
     sym (until_next runs i b b g (omega arith) g.1) ∙ (ap (run_hop_at runs) (sym z) ∙ a 0 (pow_pos u))
 
-pub next_is_past : (runs : List Run) (i b u h : ℕ) (x z : Run) → AreRuns 0 runs → IsBegun b runs i → i < length runs → x ≡ get_or runs i z → b < x.start → AllNumbers runs b u h → b + 2 ^ u ≤ x.start
+pub next_is_past : (runs : List Run) (i b u h : ℕ) (x z : Run) → AreRuns 0 runs → CountsBegun b runs i → i < length runs → x ≡ get_or runs i z → b < x.start → AllNumbers runs b u h → b + 2 ^ u ≤ x.start
 next_is_past runs i b u h x z r g lt is after a = elim (cases_lt x.start (b + 2 ^ u)) [
   | inr le ↦ le
   | inl less ↦
@@ -226,7 +226,7 @@ next_is_past runs i b u h x z r g lt is after a = elim (cases_lt x.start (b + 2 
       absurd (other_hop 0 (take i runs) (drop (suc i) runs) x cut (first_hop_is runs i b u h g a ∙ same))
 ]
 
-next_begins : (runs : List Run) (i b : ℕ) (x z : Run) → IsBegun b runs i → i < length runs → x ≡ get_or runs i z → b < x.start
+next_begins : (runs : List Run) (i b : ℕ) (x z : Run) → CountsBegun b runs i → i < length runs → x ≡ get_or runs i z → b < x.start
 next_begins runs i b x z g lt is =
     let rest : drop i runs ≡ x ∷ drop (suc i) runs = drop-cons runs i z lt ∙ ap (λ y. y ∷ drop (suc i) runs) (sym is) in
     (subst (AllByRecursion (λ (s : Run). b < s.start)) rest g.1).0
@@ -238,17 +238,17 @@ same_tests false false f g = refl
 
 -- ---- as it is tested
 
-pub at_end : (p : Prefix) (L : Entries) (runs : List Run) (i h : ℕ) (r : Bool) → RunsTell p.family L runs → IsBegun p.bits runs i → last_hop (take i runs) ≡ h → i ≡ length runs → r ≡ true → r ≡ all_get L (prefix_as p) h
+pub at_end : (p : Prefix) (L : Entries) (runs : List Run) (i h : ℕ) (r : Bool) → RunsTell p.family L runs → CountsBegun p.bits runs i → last_hop (take i runs) ≡ h → i ≡ length runs → r ≡ true → r ≡ all_get L (prefix_as p) h
 at_end p L runs i h r t g l e yes' = yes' ∙ sym (numbers_to p L runs h t (holds_to_end runs i p.bits (width p.family - p.len) h g e l))
 
-pub at_next : (p : Prefix) (L : Entries) (runs : List Run) (i h : ℕ) (x z : Run) (r : Bool) → RunsTell p.family L runs → IsBegun p.bits runs i → last_hop (take i runs) ≡ h → i < length runs → x ≡ get_or runs i z
+pub at_next : (p : Prefix) (L : Entries) (runs : List Run) (i h : ℕ) (x z : Run) (r : Bool) → RunsTell p.family L runs → CountsBegun p.bits runs i → last_hop (take i runs) ≡ h → i < length runs → x ≡ get_or runs i z
     → (p.bits < x.start → (r ≡ true) ↔ (p.bits + 2 ^ (width p.family - p.len) ≤ x.start)) → r ≡ all_get L (prefix_as p) h
 at_next p L runs i h x z r t g l lt is past =
     let after : p.bits < x.start = next_begins runs i p.bits x z g lt is in
     same_tests r (all_get L (prefix_as p) h) (λ e. numbers_to p L runs h t (holds_to_next runs i p.bits (width p.family - p.len) h x z t.1 g lt is ((past after).0 e) l))
     (λ e. (past after).1 (next_is_past runs i p.bits (width p.family - p.len) h x z t.1 g lt is after (numbers_from p L runs h t e)))
 
-pub at_other : (p : Prefix) (L : Entries) (runs : List Run) (i h : ℕ) (r : Bool) → RunsTell p.family L runs → IsBegun p.bits runs i → (last_hop (take i runs) ≡ h → ⊥) → r ≡ false → r ≡ all_get L (prefix_as p) h
+pub at_other : (p : Prefix) (L : Entries) (runs : List Run) (i h : ℕ) (r : Bool) → RunsTell p.family L runs → CountsBegun p.bits runs i → (last_hop (take i runs) ≡ h → ⊥) → r ≡ false → r ≡ all_get L (prefix_as p) h
 at_other p L runs i h r t g other f = same_tests r (all_get L (prefix_as p) h) (λ e. absurd (both_ways r f e)) (λ e. absurd (other (first_hop_is runs i p.bits (width p.family - p.len) h g (numbers_from p L runs h t e))))
 
 pub last_hop_at : (runs : List Run) (i : ℕ) (x z : Run) → i ≢ 0 → i ≤ length runs → x ≡ get_or runs (i - 1) z → x.hop ≡ last_hop (take i runs)

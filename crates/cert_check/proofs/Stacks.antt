@@ -19,8 +19,8 @@ use Rattle.cert_model.specs.Right.{Item as ModelItem}
 use Rattle.cert_model.specs.Verdict.{No, Shape, JoinWrong, are_halves, wrong_row}
 use Rattle.cert_model.proofs.Rules.{right_bound}
 use Rattle.cert_model.proofs.Reading.{all_get_is}
-use Rattle.packed_rows.specs.declared.packed.PackedRow.{PackedRow}
-use Rattle.packed_rows.specs.Views.{packed_as}
+use Rattle.cert_model.specs.declared.packed.PackedRow.{PackedRow}
+use Rattle.cert_model.specs.PackedViews.{packed_as}
 use Rattle.cert_check.specs.Views.{no_as}
 use Rattle.cert_check.specs.declared.refusal.No as code
 use Rattle.cert_check.specs.declared.rows.Item.{Item}

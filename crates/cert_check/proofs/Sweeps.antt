@@ -16,7 +16,7 @@ use Rattle.table_model.proofs.Cut.{lpm_cut, lpm_nil}
 use Rattle.table_model.proofs.Join.{all_append, all_weaker}
 use Rattle.cert_check.specs.declared.runs.Run.{Run}
 use Rattle.cert_check.specs.declared.runs.Part.{Part}
-use Rattle.cert_check.specs.Runs.{table_of, run_hop_at, last_hop, AreRuns, Below, Noted, Swept, RunsTell}
+use Rattle.cert_check.specs.Runs.{parts_table, run_hop_at, last_hop, AreRuns, Below, Noted, Swept, RunsTell}
 
 -- ---- a run at the end
 
@@ -125,20 +125,20 @@ swept_both d start L h old mid new low high below runs =
 
 -- ---- as the sweep goes
 
-pub swept_empty : (d h start : ℕ) (parts : List Part) (old new : List Run) → length parts ≡ 0 → Noted start h old new → Swept d (table_of d parts) h start old new
+pub swept_empty : (d h start : ℕ) (parts : List Part) (old new : List Run) → length parts ≡ 0 → Noted start h old new → Swept d (parts_table d parts) h start old new
 swept_empty d h start [] old new e noted = swept_none d h start old new noted
 swept_empty d h start (p ∷ parts) old new e noted = absurd (omega arith)
 
-at_address : (hop h : ℕ) (parts : List Part) → root (table_of 0 parts) ≡ Some hop → (x : ℕ) → lpm (table_of 0 parts) (bits_of 0 x) h ≡ hop
+at_address : (hop h : ℕ) (parts : List Part) → root (parts_table 0 parts) ≡ Some hop → (x : ℕ) → lpm (parts_table 0 parts) (bits_of 0 x) h ≡ hop
 unfolding bits_of
-at_address hop h parts r x = lpm_nil (table_of 0 parts) h ∙ ap (λ o. inherit o h) r
+at_address hop h parts r x = lpm_nil (parts_table 0 parts) h ∙ ap (λ o. inherit o h) r
 
-pub first_hop : (parts : List Part) (part z : Part) → 0 < length parts → part ≡ get_or parts 0 z → root (table_of 0 parts) ≡ Some part.hop
+pub first_hop : (parts : List Part) (part z : Part) → 0 < length parts → part ≡ get_or parts 0 z → root (parts_table 0 parts) ≡ Some part.hop
 unfolding bits_of
 first_hop [] part z h e = absurd (omega arith)
 first_hop (p ∷ parts) part z h e = by_len p.len ∙ ap (λ (q : Part). Some q.hop) (sym e)
   where
-    by_len : (n : ℕ) → root_of (take n []) p.hop (root (table_of 0 parts)) ≡ Some p.hop
+    by_len : (n : ℕ) → root_of (take n []) p.hop (root (parts_table 0 parts)) ≡ Some p.hop
     by_len zero = refl
     by_len (suc n) = refl
 
@@ -146,24 +146,24 @@ pub given_is : (o : Option ℕ) (h : ℕ) → unwrap_or o h ≡ inherit o h
 given_is None h = refl
 given_is (Some g) h = refl
 
-pub swept_address : (d h start hop : ℕ) (parts : List Part) (old new : List Run) → d ≡ 0 → root (table_of 0 parts) ≡ Some hop → Noted start hop old new → Swept d (table_of d parts) h start old new
+pub swept_address : (d h start hop : ℕ) (parts : List Part) (old new : List Run) → d ≡ 0 → root (parts_table 0 parts) ≡ Some hop → Noted start hop old new → Swept d (parts_table d parts) h start old new
 swept_address d h start hop parts old new e r noted =
-    subst (λ (j : ℕ). Swept j (table_of j parts) h start old new) (sym e) (swept_one 0 (table_of 0 parts) h start hop old new (at_address hop h parts r) noted)
+    subst (λ (j : ℕ). Swept j (parts_table j parts) h start old new) (sym e) (swept_one 0 (parts_table 0 parts) h start hop old new (at_address hop h parts r) noted)
 
 pub swept_region : (d at start next h hop : ℕ) (parts low high : List Part) (own : Option ℕ) (old mid new : List Run) → d ≢ 0 → at ≡ d - 1 → next ≡ start + 2 ^ at
-    → own ≡ root (table_of (at + 1) parts) → table_of at low ≡ half false (table_of (at + 1) parts) → table_of at high ≡ half true (table_of (at + 1) parts) → hop ≡ inherit own h
-    → Swept at (table_of at low) hop start old mid → Swept at (table_of at high) hop next mid new → Swept d (table_of d parts) h start old new
+    → own ≡ root (parts_table (at + 1) parts) → parts_table at low ≡ half false (parts_table (at + 1) parts) → parts_table at high ≡ half true (parts_table (at + 1) parts) → hop ≡ inherit own h
+    → Swept at (parts_table at low) hop start old mid → Swept at (parts_table at high) hop next mid new → Swept d (parts_table d parts) h start old new
 swept_region d at start next h hop parts low high own old mid new some is step o l u i first second =
     let e : at + 1 ≡ d = omega (arith, some) in
-    let g : hop ≡ inherit (root (table_of (at + 1) parts)) h = i ∙ ap (λ x. inherit x h) o in
-    let a : Swept at (half false (table_of (at + 1) parts)) (inherit (root (table_of (at + 1) parts)) h) start old mid =
-    subst (λ (T : Table). Swept at T (inherit (root (table_of (at + 1) parts)) h) start old mid) l (subst (λ (k : ℕ). Swept at (table_of at low) k start old mid) g first) in
-    let b : Swept at (half true (table_of (at + 1) parts)) (inherit (root (table_of (at + 1) parts)) h) (start + 2 ^ at) mid new =
-    subst (λ (T : Table). Swept at T (inherit (root (table_of (at + 1) parts)) h) (start + 2 ^ at) mid new) u
-    (subst (λ (k : ℕ). Swept at (table_of at high) k (start + 2 ^ at) mid new) g (subst (λ (k : ℕ). Swept at (table_of at high) hop k mid new) step second)) in
-    subst (λ (j : ℕ). Swept j (table_of j parts) h start old new) e (swept_both at start (table_of (at + 1) parts) h old mid new a b)
+    let g : hop ≡ inherit (root (parts_table (at + 1) parts)) h = i ∙ ap (λ x. inherit x h) o in
+    let a : Swept at (half false (parts_table (at + 1) parts)) (inherit (root (parts_table (at + 1) parts)) h) start old mid =
+    subst (λ (T : Table). Swept at T (inherit (root (parts_table (at + 1) parts)) h) start old mid) l (subst (λ (k : ℕ). Swept at (parts_table at low) k start old mid) g first) in
+    let b : Swept at (half true (parts_table (at + 1) parts)) (inherit (root (parts_table (at + 1) parts)) h) (start + 2 ^ at) mid new =
+    subst (λ (T : Table). Swept at T (inherit (root (parts_table (at + 1) parts)) h) (start + 2 ^ at) mid new) u
+    (subst (λ (k : ℕ). Swept at (parts_table at high) k (start + 2 ^ at) mid new) g (subst (λ (k : ℕ). Swept at (parts_table at high) hop k mid new) step second)) in
+    subst (λ (j : ℕ). Swept j (parts_table j parts) h start old new) e (swept_both at start (parts_table (at + 1) parts) h old mid new a b)
 
-pub tells : (f : Family) (L : Entries) (parts : List Part) (runs : List Run) → table_of (width f) parts ≡ of_family f L → Swept (width f) (table_of (width f) parts) 0 0 [] runs → RunsTell f L runs
+pub tells : (f : Family) (L : Entries) (parts : List Part) (runs : List Run) → parts_table (width f) parts ≡ of_family f L → Swept (width f) (parts_table (width f) parts) 0 0 [] runs → RunsTell f L runs
 tells f L parts runs e s =
     let r = s tt tt in
     let all : 0 + 2 ^ width f ≡ 2 ^ width f = omega arith in

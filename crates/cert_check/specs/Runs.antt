@@ -16,8 +16,8 @@ use Rattle.cert_check.specs.declared.table_runs.TableRuns.{TableRuns}
 abbrev pub part_as : ℕ → Part → ModelEntry
 part_as d e = record { prefix = take e.len (bits_of d e.bits); hop = e.hop }
 
-abbrev pub table_of : ℕ → List Part → Table
-table_of d parts = map (λ e. part_as d e) parts
+abbrev pub parts_table : ℕ → List Part → Table
+parts_table d parts = map (λ e. part_as d e) parts
 
 -- the hop of the last run that begins at the number or before it; 0 where none does
 abbrev pub run_hop_at : List Run → ℕ → ℕ
@@ -51,8 +51,8 @@ abbrev pub RunsTell : Family → Entries → List Run → Type 0
 RunsTell f L runs = Below (2 ^ width f) runs × AreRuns 0 runs × ((n : ℕ) → n < 2 ^ width f → run_hop_at runs n ≡ lpm (of_family f L) (bits_of (width f) n) 0)
 
 -- the first so many runs begin at the number or before it, the others after it
-abbrev pub IsBegun : ℕ → List Run → ℕ → Type 0
-IsBegun n runs i = AllByRecursion (λ r. r.start ≤ n) (take i runs) × AllByRecursion (λ r. n < r.start) (drop i runs)
+abbrev pub CountsBegun : ℕ → List Run → ℕ → Type 0
+CountsBegun n runs i = AllByRecursion (λ r. r.start ≤ n) (take i runs) × AllByRecursion (λ r. n < r.start) (drop i runs)
 
 -- the runs are those of the table, in both families
 abbrev pub TellsBoth : Entries → TableRuns → Type 0

@@ -13,7 +13,7 @@ ghost use Rattle.table_model.specs.Table.{root, half};
 ghost use Rattle.table_model.specs.Entries.{Entries, of_family};
 ghost use Rattle.cert_model.specs.Verdict.{all_get};
 ghost use Rattle.fib_addr.specs.Views.{entry_as, prefix_as};
-ghost use Rattle.cert_check.specs.Runs.{part_as, table_of, Noted, Swept, AreRuns, RunsTell, IsBegun, last_hop};
+ghost use Rattle.cert_check.specs.Runs.{part_as, parts_table, Noted, Swept, AreRuns, RunsTell, CountsBegun, last_hop};
 
 use fib_addr::{Entry, Family, Prefix, bit_at};
 use std::alloc::{AllocError, Global};
@@ -48,7 +48,7 @@ struct Halves {
 
 /// A table's entries of a family.
 fn parts_of(alloc: Global, entries: &[Entry], family: Family) -> Result<Vec<Part>, AllocError>
-    ensures { IfOk result (λ v. table_of (width family) v.items
+    ensures { IfOk result (λ v. parts_table (width family) v.items
         ≡ of_family family (map entry_as entries.now)) }
 {
     let mut parts = Vec::new(alloc);
@@ -70,10 +70,10 @@ impl Halves {
         requires { left < 128 }
         ensures own { OnOk result (self.new.own ≡ option_or self.old.own
             (root (part_as (left + 1) part.now ∷ []))) }
-        ensures low { OnOk result (table_of left self.new.low.items
-            ≡ table_of left self.old.low.items ++ half false (part_as (left + 1) part.now ∷ [])) }
-        ensures high { OnOk result (table_of left self.new.high.items
-            ≡ table_of left self.old.high.items ++ half true (part_as (left + 1) part.now ∷ [])) }
+        ensures low { OnOk result (parts_table left self.new.low.items
+            ≡ parts_table left self.old.low.items ++ half false (part_as (left + 1) part.now ∷ [])) }
+        ensures high { OnOk result (parts_table left self.new.high.items
+            ≡ parts_table left self.old.high.items ++ half true (part_as (left + 1) part.now ∷ [])) }
     {
         if part.len == 0 {
             self.own = self.own.or(Some(part.hop));
@@ -96,11 +96,11 @@ impl Halves {
 /// Deals the entries of a region out to its halves, whose addresses have `left` bits.
 fn deal(alloc: Global, parts: Vec<Part>, left: u8) -> Result<Halves, AllocError>
     requires { left < 128 }
-    ensures own { IfOk result (λ h. h.own ≡ root (table_of (left + 1) parts.items)) }
-    ensures low { IfOk result (λ h. table_of left h.low.items
-        ≡ half false (table_of (left + 1) parts.items)) }
-    ensures high { IfOk result (λ h. table_of left h.high.items
-        ≡ half true (table_of (left + 1) parts.items)) }
+    ensures own { IfOk result (λ h. h.own ≡ root (parts_table (left + 1) parts.items)) }
+    ensures low { IfOk result (λ h. parts_table left h.low.items
+        ≡ half false (parts_table (left + 1) parts.items)) }
+    ensures high { IfOk result (λ h. parts_table left h.high.items
+        ≡ half true (parts_table (left + 1) parts.items)) }
 {
     let mut halves = Halves {
         own: None,
@@ -174,7 +174,7 @@ fn sweep(
 ) -> Result<(), AllocError>
     requires left { left ≤ 128 }
     requires fits { start + 2 ^ left ≤ 2 ^ 128 }
-    ensures { OnOk result (Swept left (table_of left parts.items) inherited start runs.old.items
+    ensures { OnOk result (Swept left (parts_table left parts.items) inherited start runs.old.items
         runs.new.items) }
 {
     if parts.is_empty() {
@@ -232,7 +232,7 @@ fn begin_after(runs: &[Run], place: usize, number: u128) -> bool
 /// Whether so many runs begin at the number or before it; false where it's hard to say.
 fn are_begun(runs: &[Run], number: u128, place: usize) -> bool
     ensures bound { result ≡ true → place ≤ length runs.now }
-    ensures begun { result ≡ true → AreRuns 0 runs.now → IsBegun number runs.now place }
+    ensures begun { result ≡ true → AreRuns 0 runs.now → CountsBegun number runs.now place }
 {
     place <= runs.len() && last_start(runs, place) <= number && begin_after(runs, place, number)
 }
@@ -240,7 +240,7 @@ fn are_begun(runs: &[Run], number: u128, place: usize) -> bool
 /// How many runs begin at the number or before it. It is quick where it is the guess or one more.
 fn begun(runs: &[Run], number: u128, guess: usize) -> usize
     ensures bound { result ≤ length runs.now }
-    ensures begun { AreRuns 0 runs.now → IsBegun number runs.now result }
+    ensures begun { AreRuns 0 runs.now → CountsBegun number runs.now result }
 {
     if are_begun(runs, number, guess) {
         return guess;

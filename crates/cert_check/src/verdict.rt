@@ -9,7 +9,7 @@ ghost use Rattle.cert_model.specs.Right.{IsCertificate};
 ghost use Rattle.cert_model.specs.Verdict.{Twice, twice, wrong_row, too_many_in, verdict};
 ghost use Rattle.cert_model.specs.Verdict.{not_same as model_not_same};
 ghost use Rattle.fib_addr.specs.Views.{entry_as};
-ghost use Rattle.packed_rows.specs.Views.{packed_as};
+ghost use Rattle.cert_model.specs.PackedViews.{packed_as};
 ghost use Rattle.cert_check.specs.Views.{differ_as, no_as, IfNo};
 ghost use Rattle.cert_check.specs.Runs.{AreOfBoth, TellsBoth};
 ghost use Rattle.cert_check.specs.Stack.{bound_due};
@@ -20,8 +20,8 @@ use crate::repeats::first_twice;
 use crate::rows::{Reading, read_rows};
 use crate::sets::no_marks;
 use crate::table_runs::TableRuns;
+use cert_model::PackedRow;
 use fib_addr::{Entry, Family};
-use packed_rows::PackedRow;
 use std::alloc::{AllocError, Global};
 
 /// A prefix that stands twice in the routes, or else in the table.

@@ -6,3 +6,4 @@ pub mod Differing
 pub mod Reading
 pub mod Verdicts
 pub mod Renamed
+pub mod Fits

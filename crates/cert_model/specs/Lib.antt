@@ -4,3 +4,4 @@ pub mod Verdict
 pub mod Renamed
 pub mod Taken
 pub mod Views
+pub mod PackedViews

@@ -21,15 +21,15 @@ abbrev pub whole_prefix : Family → Prefix
 whole_prefix f = record { family = f; bits = [] }
 
 -- the one hop of both, if there is one
-abbrev pub same_hop : Option ℕ → Option ℕ → Option ℕ
-same_hop (Some g) (Some h) = cond (nat_eq g h) (Some g) None
-same_hop (Some g) None = None
-same_hop None o = None
+abbrev pub common_hop : Option ℕ → Option ℕ → Option ℕ
+common_hop (Some g) (Some h) = cond (nat_eq g h) (Some g) None
+common_hop (Some g) None = None
+common_hop None o = None
 
 -- the one answer of a region of d more bits with the answers f, if there is one
-unfoldable pub one_answer : ℕ → (List Bool → ℕ) → Option ℕ
-one_answer zero f = Some (f [])
-one_answer (suc d) f = same_hop (one_answer d (side false f)) (one_answer d (side true f))
+unfoldable pub common_answer : ℕ → (List Bool → ℕ) → Option ℕ
+common_answer zero f = Some (f [])
+common_answer (suc d) f = common_hop (common_answer d (side false f)) (common_answer d (side true f))
 
 -- a leaf row where there is one answer, else these rows
 abbrev pub leaf_or : Option ℕ → Prefix → List CertRow → List CertRow
@@ -40,7 +40,7 @@ leaf_or None p rows = rows
 unfoldable pub region_rows : ℕ → (List Bool → ℕ) → Prefix → List CertRow
 region_rows zero f p = leaf_row p (f []) ∷ []
 region_rows (suc d) f p =
-    leaf_or (one_answer (suc d) f) p (region_rows d (side false f) (half_at false p) ++ (region_rows d (side true f) (half_at true p) ++ (join_row p (k_of (suc d) f) ∷ [])))
+    leaf_or (common_answer (suc d) f) p (region_rows d (side false f) (half_at false p) ++ (region_rows d (side true f) (half_at true p) ++ (join_row p (k_of (suc d) f) ∷ [])))
 
 -- the rows of all addresses of a family, and its bound
 abbrev pub family_rows : Family → Entries → List CertRow

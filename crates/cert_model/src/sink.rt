@@ -3,7 +3,7 @@
 ghost use Rattle.std.specs.Prelude.{◌≡◌, ◌++◌, List, [], ◌∷◌, map, OnOk};
 ghost use Rattle.cert_model.specs.Rows.{CertRow};
 ghost use Rattle.cert_model.specs.Views.{row_as};
-ghost use Rattle.cert_model.specs.Taken.{taken_more};
+ghost use Rattle.cert_model.specs.Taken.{more_rows};
 
 use crate::row::Row;
 use std::alloc::AllocError;
@@ -35,7 +35,7 @@ impl RowSink for Vec<Row> {
 
     ghost takes = { λ v rows w. map row_as w.items ≡ map row_as v.items ++ rows };
 
-    ghost more = { λ a b c rows more first next. taken_more (map row_as a.items) (map row_as b.items)
+    ghost more = { λ a b c rows more first next. more_rows (map row_as a.items) (map row_as b.items)
         (map row_as c.items) rows more first next };
 
     fn put(&mut self, row: Row) -> Result<(), AllocError> {

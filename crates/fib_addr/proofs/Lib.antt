@@ -19,3 +19,5 @@ pub mod Backs
 pub mod OneAnswer
 pub mod Differing
 pub mod Prefixes
+pub mod Merging
+pub mod Ones

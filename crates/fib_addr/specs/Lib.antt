@@ -6,3 +6,5 @@ pub mod Order
 pub mod OrderLaws
 pub mod Answers
 pub mod Taken
+pub mod HopSets
+pub mod Forms

@@ -54,7 +54,7 @@ impl EntrySink for Vec<Entry> {
 /// # Errors
 ///
 /// No memory.
-pub fn hand_entry<S: EntrySink>(
+pub fn emit_entry<S: EntrySink>(
     prefix: &Prefix,
     hop: Option<u16>,
     out: &mut S,

@@ -23,18 +23,18 @@ use Rattle.table_model.specs.Regions.{above, lift, join}
 use Rattle.table_model.specs.Sets.{is_in, common, joint, or_else, side, set_of, smallest, pick, own, agg, answers}
 use Rattle.table_model.specs.Both.{aggregate_in, aggregate_in_both}
 use Rattle.table_model.proofs.Laws.{lpm_candidate}
-use Rattle.cert_model.specs.Rows.{CertRow, same_hop, one_answer, leaf_or, region_rows, family_rows, certificate_of}
+use Rattle.cert_model.specs.Rows.{CertRow, common_hop, common_answer, leaf_or, region_rows, family_rows, certificate_of}
 use Rattle.route_model.specs.Events.{Elem}
 use Rattle.route_model.specs.Choice.{Candidates, after_elem, after_elems, routes_of}
-use Rattle.kept_model.specs.Between.{between, change_at, changes_at, hop_at}
+use Rattle.kept_model.specs.Between.{between, change_at, changes_at, entry_hop_at}
 use Rattle.kept_model.specs.Patched.{after_repair, entries_outside, patch_of, region_aggregate}
 use Rattle.kept_model.specs.Kept.{changed_at, is_due, kept_at_load, snapshot_if, snapshot_of}
-use Rattle.steady_feed.specs.Told.{load_told, steady_if}
+use Rattle.kept_model.specs.Told.{load_told, steady_if}
 use Rattle.moves_model.specs.Sets.{Allowed, any, these, allowed_by_both, inner_set, is_allowed, least_allowed, near_of, new_entry, set_over}
-use Rattle.moves_cert.specs.Rows.{near_in}
-use Rattle.fewest_feed.specs.Moved.{after_move, entries_not_of, moved_by, table_by, table_from, with_nearest}
-use Rattle.fewest_feed.specs.Reported.{told_from, told_of}
-use Rattle.steady_feed.proofs.Told.{all_told}
+use Rattle.moves_model.specs.Rows.{near_in}
+use Rattle.moves_model.specs.Moved.{after_move, entries_not_of, moved_by, table_by, table_from, with_nearest}
+use Rattle.moves_model.specs.Reported.{told_from, told_of}
+use Rattle.kept_model.proofs.Told.{all_told}
 use Rattle.kept_model.specs.Feed.{at_event, entries_of, hops_after, number_in}
 use Rattle.kept_model.proofs.Numbers.{hops_distinct, entries_have}
 use Rattle.fib_report.specs.Views.{Answer}
@@ -159,12 +159,12 @@ answers_at_most n s R (a ∷ asks) l = (lpm_at_most n a.family R a.bits l, answe
 
 -- ---- the certificate
 
-one_at_most : (n d : ℕ) (f : List Bool → ℕ) → ((a : List Bool) → f a ≤ n) → IfSome (one_answer d f) (λ h. h ≤ n)
-unfolding one_answer
+one_at_most : (n d : ℕ) (f : List Bool → ℕ) → ((a : List Bool) → f a ≤ n) → IfSome (common_answer d f) (λ h. h ≤ n)
+unfolding common_answer
 one_at_most n zero f l = l []
-one_at_most n (suc d) f l = of_both (one_answer d (side false f)) (one_answer d (side true f)) (one_at_most n d (side false f) (λ a. l (false ∷ a)))
+one_at_most n (suc d) f l = of_both (common_answer d (side false f)) (common_answer d (side true f)) (one_at_most n d (side false f) (λ a. l (false ∷ a)))
   where
-    of_both : (o p : Option ℕ) → IfSome o (λ h. h ≤ n) → IfSome (same_hop o p) (λ h. h ≤ n)
+    of_both : (o p : Option ℕ) → IfSome o (λ h. h ≤ n) → IfSome (common_hop o p) (λ h. h ≤ n)
     of_both None p a = tt
     of_both (Some g) None a = tt
     of_both (Some g) (Some h) a = by_test (nat_eq g h)
@@ -177,7 +177,7 @@ rows_have : (hops : List Address) (d : ℕ) (f : List Bool → ℕ) (p : Prefix)
 unfolding region_rows
 rows_have hops zero f p l = (l [], tt)
 rows_have hops (suc d) f p l =
-    or_leaf (one_answer (suc d) f) _ (one_at_most (length hops) (suc d) f l)
+    or_leaf (common_answer (suc d) f) _ (one_at_most (length hops) (suc d) f l)
     (both (RowHasHop hops) (region_rows d (side false f) (half_at false p)) _ (rows_have hops d (side false f) (half_at false p) (λ a. l (false ∷ a)))
     (both (RowHasHop hops) (region_rows d (side true f) (half_at true p)) _ (rows_have hops d (side true f) (half_at true p) (λ a. l (true ∷ a))) (tt, tt)))
   where
@@ -370,11 +370,11 @@ loaded_has hops held = snapshot_at_most (length hops) (entries_of hops held) [] 
 abbrev ChangesHave : List Address → List (ℕ × Change) → Type 0
 ChangesHave hops cs = AllByRecursion (λ (c : ℕ × Change). ChangeHasHop hops c.1) cs
 
-hop_at_most : (n : ℕ) (p : Prefix) (L : Entries) → EntriesAtMost n L → IfSome (hop_at p L) (λ h. h ≤ n)
+hop_at_most : (n : ℕ) (p : Prefix) (L : Entries) → EntriesAtMost n L → IfSome (entry_hop_at p L) (λ h. h ≤ n)
 hop_at_most n p [] a = tt
 hop_at_most n p (e ∷ L) a = by_test (same_prefix p e.0) (hop_at_most n p L a.1)
   where
-    by_test : (b : Bool) → IfSome (hop_at p L) (λ h. h ≤ n) → IfSome (cond b (Some e.1) (hop_at p L)) (λ h. h ≤ n)
+    by_test : (b : Bool) → IfSome (entry_hop_at p L) (λ h. h ≤ n) → IfSome (cond b (Some e.1) (entry_hop_at p L)) (λ h. h ≤ n)
     by_test true more = a.0
     by_test false more = more
 
@@ -394,8 +394,8 @@ at_both n cs ds = map-append (λ c. (n, c)) cs ds
 places_have : (hops : List Address) (n : ℕ) (ps : List Prefix) (old new : Entries) → EntriesAtMost (length hops) new → ChangesHave hops (at_event n (changes_at ps old new))
 places_have hops n [] old new a = tt
 places_have hops n (p ∷ ps) old new a =
-    subst (ChangesHave hops) (sym (at_both n (change_at p (hop_at p old) (hop_at p new)) (changes_at ps old new)))
-    (both (λ (c : ℕ × Change). ChangeHasHop hops c.1) (at_event n (change_at p (hop_at p old) (hop_at p new))) (at_event n (changes_at ps old new)) (change_has hops n p (hop_at p old) (hop_at p new) (hop_at_most (length hops) p new a)) (places_have hops n ps old new a))
+    subst (ChangesHave hops) (sym (at_both n (change_at p (entry_hop_at p old) (entry_hop_at p new)) (changes_at ps old new)))
+    (both (λ (c : ℕ × Change). ChangeHasHop hops c.1) (at_event n (change_at p (entry_hop_at p old) (entry_hop_at p new))) (at_event n (changes_at ps old new)) (change_has hops n p (entry_hop_at p old) (entry_hop_at p new) (hop_at_most (length hops) p new a)) (places_have hops n ps old new a))
 
 between_have : (hops : List Address) (n : ℕ) (old new : Entries) → EntriesAtMost (length hops) new → ChangesHave hops (at_event n (between old new))
 unfolding between

@@ -3,7 +3,7 @@ use Rattle.std.proofs.Common.{◌≡◌, ℕ, List, [], ◌∷◌, ◌++◌, Opt
 use Rattle.std.specs.Prelude.{option_to_list}
 use Rattle.octet_fields.specs.Field.{◌>>=◌}
 use Rattle.table_model.specs.Address.{Address, Prefix}
-use Rattle.printed_model.specs.Rows.{Vrp}
+use Rattle.printed_text.specs.Rows.{Vrp}
 use Rattle.fib_words.specs.Commands.{Named}
 use Rattle.fib_due.specs.declared.outcome.Outcome.{Outcome}
 use Rattle.fib_due.specs.declared.outcome.Outcome.TheVariants.{Done, CheckNo, Differ, MovesNo, Usage, ReadFault, WriteFault, NoMemory, TooLarge, Malformed, HopsFull, TrieFull, BadLine, PeersFull, PathTooLong}

@@ -7,12 +7,12 @@ use Rattle.table_model.specs.Address.{Address, Prefix, IsPrefix}
 use Rattle.cert_model.specs.Verdict.{RowFits}
 use Rattle.fib_addr.specs.Text.{prefix_in}
 use Rattle.fib_addr.proofs.PrefixLaws.{read_is_prefix}
-use Rattle.printed_model.specs.Rows.{PrintedRow, route_row, invalid_row, add_row, replace_row, remove_row, moves_row, answer_row, visits_row, table_row, least_row, cert_leaf_row, cert_join_row, cert_bound_row, report_row}
-use Rattle.printed_model.specs.Reading.{or_why, bad_prefix, line_in, row_in, named_in, route_in, change_in, signed_in, moves_in, answer_in, visits_in, cert_in, part_in, join_in, bound_in, report_in, entry_in, next_field, one_field, two_fields, prefix_field, address_field, number_field, hop_field, count_field, family_field, invalid_in, announced_fields, vrp_fields, announced_in, printed_vrp_in}
-use Rattle.printed_model.specs.Texts.{BadLine, hops_in, line_texts, rows_in}
-use Rattle.printed_model.specs.Used.{Used, cert_part, printed_in, used_of}
-use Rattle.printed_model.specs.Whole.{is_filled}
-use Rattle.printed_model.proofs.Whole.{printed_rows}
+use Rattle.printed_text.specs.Rows.{PrintedRow, route_row, invalid_row, add_row, replace_row, remove_row, moves_row, answer_row, visits_row, table_row, least_row, cert_leaf_row, cert_join_row, cert_bound_row, report_row}
+use Rattle.printed_text.specs.Reading.{or_why, bad_prefix, line_in, row_in, named_in, route_row_in, change_in, signed_in, moves_in, answer_in, visits_in, cert_in, part_in, join_in, bound_in, report_in, entry_in, next_field, one_field, two_fields, prefix_field, address_field, number_field, hop_field, count_field, family_field, invalid_row_in, announced_fields, vrp_fields, announced_in, printed_vrp_in}
+use Rattle.printed_text.specs.Texts.{BadLine, hops_in, line_texts, rows_in}
+use Rattle.printed_text.specs.Used.{Used, cert_part, printed_in, used_of}
+use Rattle.printed_text.specs.Whole.{is_filled}
+use Rattle.printed_text.proofs.Whole.{printed_rows}
 
 -- the row's prefix is one, if it is a route's, an entry's, a change's, or of a certificate
 abbrev pub Fits : PrintedRow → Type 0
@@ -71,8 +71,8 @@ entry_read word fields e is = by_fields (two_fields fields) is
     by_fields (Ok f) is = by_prefix f (prefix_field f.0) refl is
     by_fields (Err why) is = absurd cc
 
-route_fits : (fields : List (List ℕ)) → FitsIn (route_in fields)
-unfolding route_in
+route_fits : (fields : List (List ℕ)) → FitsIn (route_row_in fields)
+unfolding route_row_in
 route_fits fields = before (two_fields fields) _ (λ f e. before (prefix_field f.0) _ (λ p is. before (address_field f.1) _ (λ a e. prefix_read f.0 p is)))
 
 signed_fits : (event : ℕ) (sign : List ℕ) (fields : List (List ℕ)) → FitsIn (signed_in event sign fields)
@@ -120,8 +120,8 @@ report_fits : (fields : List (List ℕ)) → FitsIn (report_in fields)
 unfolding report_in
 report_fits fields = before (two_fields fields) _ (λ f e. before (count_field f.0) _ (λ count e. before (number_field f.1) _ (λ n e. tt)))
 
-invalid_fits : (fields : List (List ℕ)) → FitsIn (invalid_in fields)
-unfolding invalid_in
+invalid_fits : (fields : List (List ℕ)) → FitsIn (invalid_row_in fields)
+unfolding invalid_row_in
 invalid_fits fields = before (announced_fields fields) _ (λ a e. before (vrp_fields a.1) _ (λ v e. before (announced_in a.0) _ (λ x e. before (printed_vrp_in v) _ (λ y e. tt))))
 
 named_fits : (name : List ℕ) (fields : List (List ℕ)) → FitsIn (named_in name fields)

@@ -7,8 +7,8 @@ use Rattle.route_model.specs.Events.{Elem, Event}
 use Rattle.route_model.specs.Choice.{after_elems, elems_after}
 use Rattle.route_model.proofs.Elems.{elems_more}
 use Rattle.kept_model.specs.Feed.{entries_of, hops_after}
-use Rattle.printed_model.specs.Rows.{Vrp}
-use Rattle.reading_model.specs.Input.{Progress, input}
+use Rattle.printed_text.specs.Rows.{Vrp}
+use Rattle.wire_model.specs.Input.{Progress, input}
 use Rattle.fib_io.specs.Pieces.{octets_read}
 use Rattle.route_tries.specs.Sizes.{Shortage, Sizes, shortage}
 use Rattle.fib_rov.specs.Rov.{invalid_in, left_of}

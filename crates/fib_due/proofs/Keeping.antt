@@ -14,7 +14,7 @@ use Rattle.table_model.specs.Changes.{Change, sum_of}
 use Rattle.table_model.specs.Table.{Alike}
 use Rattle.table_model.specs.Regions.{SameOutside}
 use Rattle.table_model.specs.Both.{LeastInBoth}
-use Rattle.kept_model.specs.Between.{AreEntries, hop_at}
+use Rattle.kept_model.specs.Between.{AreEntries, entry_hop_at}
 use Rattle.kept_model.proofs.Held.{Placed}
 use Rattle.kept_model.specs.Patched.{after_repair, entries_outside, patch_of, region_aggregate}
 use Rattle.kept_model.proofs.Patches.{family_table, hop_patched, patched_least, placed_patched}
@@ -25,17 +25,17 @@ use Rattle.route_model.proofs.Places.{prefix_key}
 use Rattle.kept_model.specs.Feed.{at_event, changes_in, entries_of, hops_after}
 use Rattle.kept_model.proofs.Tables.{at_prefix}
 use Rattle.kept_model.specs.Kept.{AreNumberedAlong, changed_at, is_due, is_other, kept_at_load, kept_by, repaired_by, snapshot_if}
-use Rattle.steady_feed.specs.Told.{load_told}
-use Rattle.steady_feed.proofs.Told.{load_told_stays}
-use Rattle.fewest_feed.specs.Moved.{moved_by, table_by, table_from}
-use Rattle.fewest_feed.specs.Reported.{moves_from, moves_of, told_from, told_of}
-use Rattle.fewest_feed.proofs.Moved.{from_alike, renewed_least}
-use Rattle.fewest_feed.proofs.Reported.{moves_from_stay, moves_step, run_sum, table_from_stays, told_from_stays, told_more, told_step}
+use Rattle.kept_model.specs.Told.{load_told}
+use Rattle.kept_model.proofs.Told.{load_told_stays}
+use Rattle.moves_model.specs.Moved.{moved_by, table_by, table_from}
+use Rattle.moves_model.specs.Reported.{moves_from, moves_of, told_from, told_of}
+use Rattle.moves_model.proofs.Moved.{from_alike, renewed_least}
+use Rattle.moves_model.proofs.Reported.{moves_from_stay, moves_step, run_sum, table_from_stays, told_from_stays, told_more, told_step}
 use Rattle.kept_model.proofs.FeedAlike.{loaded_alike, snapshot_least}
 use Rattle.kept_model.proofs.FeedSums.{snapshot_placed}
 use Rattle.kept_model.proofs.FeedStays.{load_stays}
 use Rattle.kept_model.proofs.FeedSteps.{numbered_along, numbered_later}
-use Rattle.fib_due.specs.Due.{changes_of, kept_of, moves_of as run_moves}
+use Rattle.fib_due.specs.Due.{run_changes, kept_of, run_moves}
 use Rattle.fib_due.specs.Keeps.{changes_to, entries_besides, has_snapshot}
 
 -- ---- the numbers of events
@@ -236,7 +236,7 @@ patched_outside R T p x t =
     let N = patch_of R p T in
     let n : Placed N = placed_patched R T p x t in
     same_entries prefix_key (entries_outside p N) (entries_outside p T) (sorted_filter prefix_cmp (is_out) N n.1) (sorted_filter prefix_cmp (is_out) T t.1) (all_filter (is_out) IsPrefix N n.0) (all_filter (is_out) IsPrefix T t.0)
-    (λ q. lookup-filter prefix_key (is_out) q N n.1 ∙ (by_test q (is_within q p) (hop_at q (region_aggregate R p T)) (hop_at q T) (hop_at q N) (hop_patched R T p q x t) ∙ sym (lookup-filter prefix_key (is_out) q T t.1)))
+    (λ q. lookup-filter prefix_key (is_out) q N n.1 ∙ (by_test q (is_within q p) (entry_hop_at q (region_aggregate R p T)) (entry_hop_at q T) (entry_hop_at q N) (hop_patched R T p q x t) ∙ sym (lookup-filter prefix_key (is_out) q T t.1)))
   where
     is_out : Prefix × ℕ → Bool
     is_out e = not (is_within e.0 p)
@@ -265,7 +265,7 @@ along : (before elems : List Elem) → AreNumberedAlong (hops_after [] (before +
 along before elems = subst (λ es. AreNumberedAlong (hops_after [] (before ++ es)) (after_elems [] before) elems) (append-nil elems) (numbered_along before elems [])
 
 -- the changes stay what they are as more hops get numbers
-changes_stay : (fewest steady : Bool) (every : ℕ) (before elems more : List Elem) → changes_of fewest steady every (hops_after (hops_after [] (before ++ elems)) more) before elems ≡ changes_of fewest steady every (hops_after [] (before ++ elems)) before elems
+changes_stay : (fewest steady : Bool) (every : ℕ) (before elems more : List Elem) → run_changes fewest steady every (hops_after (hops_after [] (before ++ elems)) more) before elems ≡ run_changes fewest steady every (hops_after [] (before ++ elems)) before elems
 changes_stay fewest steady every before elems more =
     let hops = hops_after [] (before ++ elems) in
     let held = after_elems [] before in
@@ -306,17 +306,17 @@ module _ (fewest : Bool) (every : ℕ) (before done : List Elem) (elem : Elem) (
   table_now : T ≡ kept_of fewest every now before done
   table_now = t ∙ (ap (λ hs. kept_of fewest every hs before done) h ∙ (sym (table_stays fewest every before done (elem ∷ [])) ∙ ap (λ hs. kept_of fewest every (hops_after hs (elem ∷ [])) before done) (sym h)))
 
-  pub changes_grow : (steady : Bool) → changes_of fewest steady every hops before done ++ at_event (n + 1) (told_of fewest steady every now (n + 1) held T elem) ≡ changes_of fewest steady every now before (done ++ elem ∷ [])
+  pub changes_grow : (steady : Bool) → run_changes fewest steady every hops before done ++ at_event (n + 1) (told_of fewest steady every now (n + 1) held T elem) ≡ run_changes fewest steady every now before (done ++ elem ∷ [])
   changes_grow steady =
-      let changes : changes_of fewest steady every hops before done ≡ changes_of fewest steady every now before done =
-      ap (λ hs. changes_of fewest steady every hs before done) h ∙ (sym (changes_stay fewest steady every before done (elem ∷ [])) ∙ ap (λ hs. changes_of fewest steady every (hops_after hs (elem ∷ [])) before done) (sym h))
+      let changes : run_changes fewest steady every hops before done ≡ run_changes fewest steady every now before done =
+      ap (λ hs. run_changes fewest steady every hs before done) h ∙ (sym (changes_stay fewest steady every before done (elem ∷ [])) ∙ ap (λ hs. run_changes fewest steady every (hops_after hs (elem ∷ [])) before done) (sym h))
       in
       let last : at_event (n + 1) (told_of fewest steady every now (n + 1) held T elem) ≡ at_event (length done + 1) (told_of fewest steady every now (length done + 1) (after_elems first done) (kept_of fewest every now before done) elem) =
       ap (λ m. at_event (m + 1) (told_of fewest steady every now (m + 1) held T elem)) e
       ∙ (ap (λ k. at_event (length done + 1) (told_of fewest steady every now (length done + 1) k T elem)) c ∙ ap (λ K. at_event (length done + 1) (told_of fewest steady every now (length done + 1) (after_elems first done) K elem)) table_now)
       in
       ap (λ cs. cs ++ at_event (n + 1) (told_of fewest steady every now (n + 1) held T elem)) changes
-      ∙ (ap (λ cs. changes_of fewest steady every now before done ++ cs) last
+      ∙ (ap (λ cs. run_changes fewest steady every now before done ++ cs) last
       ∙ (append_assoc (load_told steady now first) (told_from fewest steady every now 1 first (kept_at_load now first) done) (at_event (length done + 1) (told_of fewest steady every now (length done + 1) (after_elems first done) (kept_of fewest every now before done) elem))
       ∙ ap (λ cs. load_told steady now first ++ cs) (sym (told_step fewest steady every now first (kept_at_load now first) done elem))))
 

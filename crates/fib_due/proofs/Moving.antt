@@ -17,22 +17,22 @@ use Rattle.route_model.proofs.Elems.{candidates_stay}
 use Rattle.kept_model.specs.Between.{between, place_of}
 use Rattle.kept_model.proofs.Alike.{all_between, made_placed}
 use Rattle.kept_model.proofs.Held.{Placed}
-use Rattle.steady_model.specs.Steady.{in_steady_order}
-use Rattle.steady_model.proofs.Goes.{same_changes, steady_placed}
+use Rattle.kept_model.specs.Steady.{in_steady_order}
+use Rattle.kept_model.proofs.Goes.{same_changes, steady_placed}
 use Rattle.moves_model.specs.Dist.{distance}
 use Rattle.kept_model.specs.Feed.{at_event, changes_in, entries_of}
 use Rattle.kept_model.specs.Kept.{changed_at, kept_at_load}
 use Rattle.kept_model.proofs.FeedAlike.{loaded_alike}
 use Rattle.kept_model.proofs.FeedSteps.{elems_more}
-use Rattle.steady_feed.specs.Told.{load_told, steady_if}
-use Rattle.steady_feed.proofs.Blocks.{after_more, in_at_event}
-use Rattle.fewest_feed.specs.Moved.{moved_by, table_by, table_from}
-use Rattle.fewest_feed.specs.Reported.{counted_at, first_changes, moves_from, moves_of_run, then_changes, told_from, told_of}
-use Rattle.fewest_feed.proofs.Moved.{from_alike, from_placed, moved_alike, moved_placed}
-use Rattle.fewest_feed.proofs.Reported.{moves_more, run_sum, table_step, told_count, told_more}
-use Rattle.fewest_feed.proofs.Shortest.{counted, move_shortest}
+use Rattle.kept_model.specs.Told.{load_told, steady_if}
+use Rattle.kept_model.proofs.Blocks.{after_more, in_at_event}
+use Rattle.moves_model.specs.Moved.{moved_by, table_by, table_from}
+use Rattle.moves_model.specs.Reported.{counted_at, first_changes, moves_from, moves_of_run, then_changes, told_from, told_of}
+use Rattle.moves_model.proofs.Moved.{from_alike, from_placed, moved_alike, moved_placed}
+use Rattle.moves_model.proofs.Reported.{moves_more, run_sum, table_step, told_count, told_more}
+use Rattle.moves_model.proofs.Shortest.{counted, move_shortest}
 use Rattle.fib_due.specs.Due.{Printed}
-use Rattle.fib_due.specs.Keeps.{HasRow, IsFewestRow, changes_at, has_snapshot}
+use Rattle.fib_due.specs.Keeps.{HasRow, IsFewestRow, event_changes, has_snapshot}
 use Rattle.fib_due.proofs.Keeping.{Numbered, all_changes, all_weaker, changes_are, event_is, loaded_placed, none_due, numbers_from, numbers_to, table_after, table_is}
 
 -- ---- the changes of one event among all
@@ -94,7 +94,7 @@ module _ (steady : Bool) (every : ℕ) (hops : List Address) (held : Candidates)
   first_count = steady_count steady (between before moved) (all_between IsPrefix before moved before_placed.0 after_placed.0)
 
   -- those of the event
-  told_at : changes_at (length done + 1) all ≡ told_of true steady every hops (length done + 1) now before elem
+  told_at : event_changes (length done + 1) all ≡ told_of true steady every hops (length done + 1) now before elem
   unfolding told_from
   told_at =
       let n = length done + 1 in
@@ -121,7 +121,7 @@ module _ (steady : Bool) (every : ℕ) (hops : List Address) (held : Candidates)
       ap changes_in kept ∙ in_at_event n cs
 
   -- the first so many of them lead to the nearest table
-  reached : (n : ℕ) → n ≡ length (first_changes true hops now before elem) → sum_of (changes_in (all_changes true steady every hops held done) ++ take n (changes_at (length done + 1) all)) ≡ Some moved
+  reached : (n : ℕ) → n ≡ length (first_changes true hops now before elem) → sum_of (changes_in (all_changes true steady every hops held done) ++ take n (event_changes (length done + 1) all)) ≡ Some moved
   reached n is =
       let first = steady_if steady (between before moved) in
       ap (λ cs. sum_of (changes_in (all_changes true steady every hops held done) ++ cs)) (ap (take n) told_at ∙ take_front n first (steady_if steady (then_changes true every hops (length done + 1) now before elem)) (is ∙ sym first_count))
@@ -227,12 +227,12 @@ module _ (p : Printed) (steady : Bool) (are : p.told.changes ≡ all_changes tru
         number = r.number;
         changed = r.changed;
         table = M;
-        reached = ap (λ cs. sum_of (changes_in (filter (λ (c : ℕ × Change). nat_le c.0 (length r.done)) cs) ++ take row.1 (changes_at (length r.done + 1) cs))) same
-            ∙ (ap (λ cs. sum_of (changes_in cs ++ take row.1 (changes_at (length r.done + 1) (all_changes true steady every hops held (r.done ++ r.elem ∷ r.rest))))) (changes_are true steady every hops held r.done (r.elem ∷ r.rest))
+        reached = ap (λ cs. sum_of (changes_in (filter (λ (c : ℕ × Change). nat_le c.0 (length r.done)) cs) ++ take row.1 (event_changes (length r.done + 1) cs))) same
+            ∙ (ap (λ cs. sum_of (changes_in cs ++ take row.1 (event_changes (length r.done + 1) (all_changes true steady every hops held (r.done ++ r.elem ∷ r.rest))))) (changes_are true steady every hops held r.done (r.elem ∷ r.rest))
             ∙ reached steady every hops held r.done r.rest r.elem l d e row.1 r.count);
         alike = subst (λ R. AlikeInBoth R M) routes (answers steady every hops held r.done r.rest r.elem l d e);
-        all = λ none. ap (λ cs. length (changes_at row.0 cs)) same
-            ∙ (ap (λ n. length (changes_at n (all_changes true steady every hops held (r.done ++ r.elem ∷ r.rest)))) r.number
+        all = λ none. ap (λ cs. length (event_changes row.0 cs)) same
+            ∙ (ap (λ n. length (event_changes n (all_changes true steady every hops held (r.done ++ r.elem ∷ r.rest)))) r.number
             ∙ (ap length (told_at steady every hops held r.done r.rest r.elem l d e)
             ∙ (told_count true steady every hops (length r.done + 1) now T r.elem e t (none_due every (length r.done) (subst (λ n. has_snapshot every n ≡ false) r.number none)) ∙ sym r.count)));
         fewest = λ X U x a.

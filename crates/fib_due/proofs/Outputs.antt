@@ -3,7 +3,7 @@ use Rattle.std.proofs.Common.{◌≡◌, List, Result, Ok, Err, refl}
 use Rattle.octet_fields.specs.Field.{◌>>=◌}
 use Rattle.table_model.specs.Address.{Prefix}
 use Rattle.route_model.specs.Events.{Event}
-use Rattle.step_world.specs.Stepping.{Stepping}
+use Rattle.step_run.specs.Stepping.{Stepping}
 use Rattle.fib_same.specs.Due as same
 use Rattle.fib_due.specs.declared.outcome.Outcome.TheVariants.{BadLine, TooLarge}
 use Rattle.fib_due.specs.declared.outcome.Which.TheVariants.{Text}
@@ -28,7 +28,7 @@ all_steps Q stops (Ok s) = stops Untold
 all_steps Q stops (Err stop) = stops stop
 
 -- of what is printed of texts, of a prefix that stands twice in one, or of a refusal
-pub all_texts : {X : Type 0} (Q : Due → Type 0) (out : X → Output) (t : Result X same.Stop) → ((x : X) → t ≡ Ok x → Q (Ok (out x))) → ((p : Prefix) → Q (Ok (Repeats p))) → OfStops Q → Q (of_texts out t)
+pub all_texts : {X : Type 0} (Q : Due → Type 0) (out : X → Output) (t : Result X same.TextStop) → ((x : X) → t ≡ Ok x → Q (Ok (out x))) → ((p : Prefix) → Q (Ok (Repeats p))) → OfStops Q → Q (of_texts out t)
 all_texts Q out (Ok x) each twice stops = each x refl
 all_texts Q out (Err same.Untold) each twice stops = stops Untold
 all_texts Q out (Err (same.Refused (same.TooLarge n))) each twice stops = stops (Refused (TooLarge (Text n)))

@@ -5,7 +5,7 @@ use Rattle.fib_io.specs.Reads.{Anywhere, AtEnd, Makes, Pass, PassEnd, PassInTime
 use Rattle.fib_io.specs.Reads as io
 use Rattle.fib_io.proofs.Passing.{makes_as, makes_none, makes_then}
 use Rattle.fib_io.proofs.Timing.{ended_in_time, no_pass_in_time, pass_as, pass_of_text}
-use Rattle.whole_input.specs.declared.whole.WholeError.TheVariants as whole
+use Rattle.mrt_read.specs.declared.whole.WholeError.TheVariants as whole
 use Rattle.fib_due.specs.declared.outcome.Outcome.{Outcome}
 use Rattle.fib_due.specs.declared.outcome.Outcome.TheVariants.{Done, CheckNo, Differ, MovesNo, Usage, ReadFault, WriteFault, NoMemory, TooLarge, Malformed, HopsFull, TrieFull, BadLine, PeersFull, PathTooLong}
 use Rattle.fib_due.specs.declared.outcome.Which.{Which}
@@ -17,12 +17,12 @@ use Rattle.fib_due.specs.Views.{wrong_as}
 use Rattle.fib_words.specs.Commands.{Asked, Check, CheckMoves, Make, Moves, Run, Same, Save, Steps}
 use Rattle.fib_due.specs.Ends.{EndsBy}
 use Rattle.fib_due.specs.InTime.{TextMayGoOn, RunMayGoOn, SaveMayGoOn, StepsMayGoOn}
-use Rattle.fib_due.specs.Passes.{AllRead, Content, Input, Judge, MayBegin, ReadInPart, ReadUpTo, ReadsAsked, ReadsAt, ReadsFound, ReadsOf, ReadsTexts, ReadsTo, StopsReading, check_moves_inputs, moves_inputs, same_inputs, save_inputs, check_inputs, run_inputs, steps_inputs}
+use Rattle.fib_due.specs.Passes.{InputsRead, Content, Input, Judge, MayBegin, ReadInPart, ReadUpTo, ReadsAsked, ReadsAt, ReadsFound, ReadsOf, ReadsTexts, ReadsTo, StopsReading, check_moves_inputs, moves_inputs, same_inputs, save_inputs, check_inputs, run_inputs, steps_inputs}
 
 -- ---- inputs after others
 
-all_both : (content : Content) (Goes : Judge) (xs ys : List Input) (first next : List Read) → AllRead content Goes xs first → AllRead content Goes ys next → AllRead content Goes (xs ++ ys) (first ++ next)
-all_both content Goes [] ys first next p q = subst (λ reads. AllRead content Goes ys (reads ++ next)) (sym p) q
+all_both : (content : Content) (Goes : Judge) (xs ys : List Input) (first next : List Read) → InputsRead content Goes xs first → InputsRead content Goes ys next → InputsRead content Goes (xs ++ ys) (first ++ next)
+all_both content Goes [] ys first next p q = subst (λ reads. InputsRead content Goes ys (reads ++ next)) (sym p) q
 all_both content Goes (x ∷ xs) ys first next p q = (p.0, p.1 ++ next, ap (λ reads. reads ++ next) p.2 ∙ append_assoc p.0 p.1 next, p.3, all_both content Goes xs ys p.1 next p.4 q)
 
 up_to_sooner : (content : Content) (Goes : Judge) (xs ys : List Input) (which : Which) (end : PassEnd) (reads : List Read) → ReadUpTo content Goes xs which end reads → ReadUpTo content Goes (xs ++ ys) which end reads
@@ -38,7 +38,7 @@ up_to_sooner content Goes xs ys which end reads p = record {
   all = p.all;
 }
 
-up_to_later : (content : Content) (Goes : Judge) (xs ys : List Input) (which : Which) (end : PassEnd) (first next : List Read) → AllRead content Goes xs first → ReadUpTo content Goes ys which end next → ReadUpTo content Goes (xs ++ ys) which end (first ++ next)
+up_to_later : (content : Content) (Goes : Judge) (xs ys : List Input) (which : Which) (end : PassEnd) (first next : List Read) → InputsRead content Goes xs first → ReadUpTo content Goes ys which end next → ReadUpTo content Goes (xs ++ ys) which end (first ++ next)
 up_to_later content Goes xs ys which end first next p q = record {
   before = xs ++ q.before;
   name = q.name;
@@ -71,7 +71,7 @@ part_sooner content Goes xs ys reads p = record {
   all = p.all;
 }
 
-part_later : (content : Content) (Goes : Judge) (xs ys : List Input) (first next : List Read) → AllRead content Goes xs first → ReadInPart content Goes ys next → ReadInPart content Goes (xs ++ ys) (first ++ next)
+part_later : (content : Content) (Goes : Judge) (xs ys : List Input) (first next : List Read) → InputsRead content Goes xs first → ReadInPart content Goes ys next → ReadInPart content Goes (xs ++ ys) (first ++ next)
 part_later content Goes xs ys first next p q = record {
   before = xs ++ q.before;
   after = q.after;
@@ -83,7 +83,7 @@ part_later content Goes xs ys first next p q = record {
   all = ap (λ reads. first ++ reads) q.all ∙ sym (append_assoc first q.first q.last);
 }
 
-pub part_all : (content : Content) (Goes : Judge) (xs : List Input) (reads : List Read) → AllRead content Goes xs reads → ReadInPart content Goes xs reads
+pub part_all : (content : Content) (Goes : Judge) (xs : List Input) (reads : List Read) → InputsRead content Goes xs reads → ReadInPart content Goes xs reads
 part_all content Goes xs reads p = record { before = xs; after = []; order = sym (append-nil xs); first = reads; whole = p; last = []; begun = refl; all = sym (append-nil reads) }
 
 stops_sooner : (content : Content) (Goes : Judge) (xs ys : List Input) (o : Outcome) (reads : List Read) → StopsReading content Goes xs o reads → StopsReading content Goes (xs ++ ys) o reads
@@ -105,7 +105,7 @@ stops_sooner content Goes xs ys (PathTooLong q n) reads p = absurd p
 stops_sooner content Goes xs ys WriteFault reads p = absurd p
 stops_sooner content Goes xs ys Usage reads p = absurd p
 
-stops_later : (content : Content) (Goes : Judge) (xs ys : List Input) (o : Outcome) (first next : List Read) → AllRead content Goes xs first → StopsReading content Goes ys o next → StopsReading content Goes (xs ++ ys) o (first ++ next)
+stops_later : (content : Content) (Goes : Judge) (xs ys : List Input) (o : Outcome) (first next : List Read) → InputsRead content Goes xs first → StopsReading content Goes ys o next → StopsReading content Goes (xs ++ ys) o (first ++ next)
 stops_later content Goes xs ys ReadFault first next p q = (q.0, up_to_later content Goes xs ys q.0 io.AtFault first next p q.1)
 stops_later content Goes xs ys NoMemory first next p q = part_later content Goes xs ys first next p q
 stops_later content Goes xs ys (TooLarge which) first next p q = up_to_later content Goes xs ys which io.PastMost first next p q
@@ -139,7 +139,7 @@ lets_back : (Goes Other : Judge) (xs ys : List Input) → Lets Goes Other (xs ++
 lets_back Goes Other [] ys lets = lets
 lets_back Goes Other (x ∷ xs) ys lets = lets_back Goes Other xs ys lets.1
 
-all_let : (content : Content) (Goes Other : Judge) (xs : List Input) (reads : List Read) → Lets Goes Other xs → AllRead content Goes xs reads → AllRead content Other xs reads
+all_let : (content : Content) (Goes Other : Judge) (xs : List Input) (reads : List Read) → Lets Goes Other xs → InputsRead content Goes xs reads → InputsRead content Other xs reads
 all_let content Goes Other [] reads lets p = p
 all_let content Goes Other (x ∷ xs) reads lets p = (p.0, p.1, p.2, pass_as (content x.1) (Goes x.0) (Other x.0) AtEnd x.1 p.0 lets.0 p.3, all_let content Goes Other xs p.1 lets.1 p.4)
 
@@ -195,8 +195,8 @@ stops_let content Goes Other xs (PathTooLong q n) reads lets p = absurd p
 stops_let content Goes Other xs WriteFault reads lets p = absurd p
 stops_let content Goes Other xs Usage reads lets p = absurd p
 
-pub all_lets : (content : Content) (Goes Other : Judge) (before now : Option (List Read)) (xs : List Input) → Lets Goes Other xs → Makes before now (AllRead content Goes xs) → Makes before now (AllRead content Other xs)
-all_lets content Goes Other before now xs lets made = makes_as before now (AllRead content Goes xs) (AllRead content Other xs) made (λ reads p. all_let content Goes Other xs reads lets p)
+pub all_lets : (content : Content) (Goes Other : Judge) (before now : Option (List Read)) (xs : List Input) → Lets Goes Other xs → Makes before now (InputsRead content Goes xs) → Makes before now (InputsRead content Other xs)
+all_lets content Goes Other before now xs lets made = makes_as before now (InputsRead content Goes xs) (InputsRead content Other xs) made (λ reads p. all_let content Goes Other xs reads lets p)
 
 pub stopped_lets : (content : Content) (Goes Other : Judge) (before now : Option (List Read)) (xs : List Input) (o : Outcome) → Lets Goes Other xs → Makes before now (StopsReading content Goes xs o) → Makes before now (StopsReading content Other xs o)
 stopped_lets content Goes Other before now xs o lets made = makes_as before now (StopsReading content Goes xs o) (StopsReading content Other xs o) made (λ reads p. stops_let content Goes Other xs o reads lets p)
@@ -208,24 +208,24 @@ pub stopped_first : (content : Content) (Goes : Judge) (before now : Option (Lis
 stopped_first content Goes before now xs ys o made = makes_as before now (StopsReading content Goes xs o) (StopsReading content Goes (xs ++ ys) o) made (stops_sooner content Goes xs ys o)
 
 -- the first inputs, and then a refusal of others
-pub stopped_next : (content : Content) (Goes : Judge) (before between now : Option (List Read)) (xs ys : List Input) (o : Outcome) → Makes before between (AllRead content Goes xs) → Makes between now (StopsReading content Goes ys o) → Makes before now (StopsReading content Goes (xs ++ ys) o)
-stopped_next content Goes before between now xs ys o first next = makes_then before between now (AllRead content Goes xs) (StopsReading content Goes ys o) (StopsReading content Goes (xs ++ ys) o) first next (stops_later content Goes xs ys o)
+pub stopped_next : (content : Content) (Goes : Judge) (before between now : Option (List Read)) (xs ys : List Input) (o : Outcome) → Makes before between (InputsRead content Goes xs) → Makes between now (StopsReading content Goes ys o) → Makes before now (StopsReading content Goes (xs ++ ys) o)
+stopped_next content Goes before between now xs ys o first next = makes_then before between now (InputsRead content Goes xs) (StopsReading content Goes ys o) (StopsReading content Goes (xs ++ ys) o) first next (stops_later content Goes xs ys o)
 
 -- the first inputs, and then others
-pub all_next : (content : Content) (Goes : Judge) (before between now : Option (List Read)) (xs ys : List Input) → Makes before between (AllRead content Goes xs) → Makes between now (AllRead content Goes ys) → Makes before now (AllRead content Goes (xs ++ ys))
-all_next content Goes before between now xs ys first next = makes_then before between now (AllRead content Goes xs) (AllRead content Goes ys) (AllRead content Goes (xs ++ ys)) first next (all_both content Goes xs ys)
+pub all_next : (content : Content) (Goes : Judge) (before between now : Option (List Read)) (xs ys : List Input) → Makes before between (InputsRead content Goes xs) → Makes between now (InputsRead content Goes ys) → Makes before now (InputsRead content Goes (xs ++ ys))
+all_next content Goes before between now xs ys first next = makes_then before between now (InputsRead content Goes xs) (InputsRead content Goes ys) (InputsRead content Goes (xs ++ ys)) first next (all_both content Goes xs ys)
 
-pub reads_next : {X : Type 0} (content : Content) (Goes : Judge) (before between now : Option (List Read)) (xs ys : List Input) (r : Result X Outcome) → Makes before between (AllRead content Goes xs) → Makes between now (ReadsOf content Goes ys r) → Makes before now (ReadsOf content Goes (xs ++ ys) r)
+pub reads_next : {X : Type 0} (content : Content) (Goes : Judge) (before between now : Option (List Read)) (xs ys : List Input) (r : Result X Outcome) → Makes before between (InputsRead content Goes xs) → Makes between now (ReadsOf content Goes ys r) → Makes before now (ReadsOf content Goes (xs ++ ys) r)
 reads_next content Goes before between now xs ys (Ok x) first next = all_next content Goes before between now xs ys first next
 reads_next content Goes before between now xs ys (Err o) first next = stopped_next content Goes before between now xs ys o first next
 
 -- all inputs, and then memory runs out
-pub out_of_memory : (content : Content) (Goes : Judge) (before now : Option (List Read)) (xs : List Input) → Makes before now (AllRead content Goes xs) → Makes before now (StopsReading content Goes xs NoMemory)
-out_of_memory content Goes before now xs made = makes_as before now (AllRead content Goes xs) (StopsReading content Goes xs NoMemory) made (part_all content Goes xs)
+pub out_of_memory : (content : Content) (Goes : Judge) (before now : Option (List Read)) (xs : List Input) → Makes before now (InputsRead content Goes xs) → Makes before now (StopsReading content Goes xs NoMemory)
+out_of_memory content Goes before now xs made = makes_as before now (InputsRead content Goes xs) (StopsReading content Goes xs NoMemory) made (part_all content Goes xs)
 
 -- ---- one input
 
-all_one : (content : Content) (Goes : Judge) (which : Which) (name : List ℕ) (reads : List Read) → PassInTime (content name) (Goes which) AtEnd name reads → AllRead content Goes ((which, name) ∷ []) reads
+all_one : (content : Content) (Goes : Judge) (which : Which) (name : List ℕ) (reads : List Read) → PassInTime (content name) (Goes which) AtEnd name reads → InputsRead content Goes ((which, name) ∷ []) reads
 all_one content Goes which name reads p = (reads, [], sym (append-nil reads), p, refl)
 
 up_to_one : (content : Content) (Goes : Judge) (which : Which) (end : PassEnd) (name : List ℕ) (reads : List Read) → PassInTime (content name) (Goes which) end name reads → ReadUpTo content Goes ((which, name) ∷ []) which end reads
@@ -239,8 +239,8 @@ pub text_pass : (content : Content) (before now : Option (List Read)) (which : W
 text_pass content before now which end name made = makes_as before now (Pass end name) (PassInTime (content name) (TextMayGoOn which) end name) made (λ reads p. pass_of_text (content name) end name reads p)
 
 -- it is read to its end
-pub input_read : (content : Content) (Goes : Judge) (before now : Option (List Read)) (which : Which) (name : List ℕ) → Makes before now (PassInTime (content name) (Goes which) AtEnd name) → Makes before now (AllRead content Goes ((which, name) ∷ []))
-input_read content Goes before now which name made = makes_as before now (PassInTime (content name) (Goes which) AtEnd name) (AllRead content Goes ((which, name) ∷ [])) made (all_one content Goes which name)
+pub input_read : (content : Content) (Goes : Judge) (before now : Option (List Read)) (which : Which) (name : List ℕ) → Makes before now (PassInTime (content name) (Goes which) AtEnd name) → Makes before now (InputsRead content Goes ((which, name) ∷ []))
+input_read content Goes before now which name made = makes_as before now (PassInTime (content name) (Goes which) AtEnd name) (InputsRead content Goes ((which, name) ∷ [])) made (all_one content Goes which name)
 
 -- it is refused
 pub input_refused : (content : Content) (Goes : Judge) (before now : Option (List Read)) (which : Which) (end : PassEnd) (name : List ℕ) → Makes before now (PassInTime (content name) (Goes which) end name) → Makes before now (ReadUpTo content Goes ((which, name) ∷ []) which end)
@@ -256,14 +256,14 @@ pub input_begun : (content : Content) (Goes : Judge) (before now : Option (List 
 input_begun content Goes before now which name made = makes_as before now (PassInTime (content name) (Goes which) Anywhere name) (StopsReading content Goes ((which, name) ∷ []) NoMemory) made (part_one content Goes which name)
 
 -- an input whose reads are all made is refused then
-one_ended : (content : Content) (Goes : Judge) (which : Which) (name : List ℕ) (reads : List Read) → AllRead content Goes ((which, name) ∷ []) reads → ReadUpTo content Goes ((which, name) ∷ []) which AtEnd reads
+one_ended : (content : Content) (Goes : Judge) (which : Which) (name : List ℕ) (reads : List Read) → InputsRead content Goes ((which, name) ∷ []) reads → ReadUpTo content Goes ((which, name) ∷ []) which AtEnd reads
 one_ended content Goes which name reads p = up_to_one content Goes which AtEnd name reads (subst (PassInTime (content name) (Goes which) AtEnd name) (sym (p.2 ∙ ap (λ rest. p.0 ++ rest) p.4 ∙ append-nil p.0)) p.3)
 
-pub one_ended_early : (content : Content) (Goes : Judge) (which : Which) (name : List ℕ) (reads : List Read) → AllRead content Goes ((which, name) ∷ []) reads → ReadUpTo content Goes ((which, name) ∷ []) which Anywhere reads
+pub one_ended_early : (content : Content) (Goes : Judge) (which : Which) (name : List ℕ) (reads : List Read) → InputsRead content Goes ((which, name) ∷ []) reads → ReadUpTo content Goes ((which, name) ∷ []) which Anywhere reads
 one_ended_early content Goes which name reads p = up_to_one content Goes which Anywhere name reads (ended_in_time (content name) (Goes which) name reads (subst (PassInTime (content name) (Goes which) AtEnd name) (sym (p.2 ∙ ap (λ rest. p.0 ++ rest) p.4 ∙ append-nil p.0)) p.3))
 
-pub text_refused : (content : Content) (Goes : Judge) (before now : Option (List Read)) (which : Which) (name : List ℕ) → Makes before now (AllRead content Goes ((which, name) ∷ [])) → Makes before now (ReadUpTo content Goes ((which, name) ∷ []) which AtEnd)
-text_refused content Goes before now which name made = makes_as before now (AllRead content Goes ((which, name) ∷ [])) (ReadUpTo content Goes ((which, name) ∷ []) which AtEnd) made (one_ended content Goes which name)
+pub text_refused : (content : Content) (Goes : Judge) (before now : Option (List Read)) (which : Which) (name : List ℕ) → Makes before now (InputsRead content Goes ((which, name) ∷ [])) → Makes before now (ReadUpTo content Goes ((which, name) ∷ []) which AtEnd)
+text_refused content Goes before now which name made = makes_as before now (InputsRead content Goes ((which, name) ∷ [])) (ReadUpTo content Goes ((which, name) ∷ []) which AtEnd) made (one_ended content Goes which name)
 
 -- ---- the top call
 
@@ -281,7 +281,7 @@ found_unwritten content inputs (Some (wrong.Differ x)) reads p = inl p
 found_unwritten content inputs (Some (wrong.MovesNo x)) reads p = inl p
 
 -- inputs that were all read
-all_ended : (content : Content) (Goes : Judge) (inputs : List Input) (w : Option code_wrong.Wrong) (o : Outcome) (reads : List Read) → EndsBy (option_map wrong_as w) o → AllRead content Goes inputs reads → ReadsTo content Goes inputs o reads
+all_ended : (content : Content) (Goes : Judge) (inputs : List Input) (w : Option code_wrong.Wrong) (o : Outcome) (reads : List Read) → EndsBy (option_map wrong_as w) o → InputsRead content Goes inputs reads → ReadsTo content Goes inputs o reads
 all_ended content Goes inputs None o reads e p = rw e p
 all_ended content Goes inputs (Some (wrong.No x)) o reads e p = rw e.1 p
 all_ended content Goes inputs (Some (wrong.Differ x)) o reads e p = rw e.1 p

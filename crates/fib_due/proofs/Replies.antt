@@ -5,24 +5,24 @@ use Rattle.octet_fields.specs.Field.{◌>>=◌}
 use Rattle.cert_model.proofs.Rules.{soundness_law}
 use Rattle.cert_model.proofs.Verdicts.{verdict_is, verdict_law}
 use Rattle.cert_model.specs.Verdict.{RowFits}
-use Rattle.printed_model.specs.Texts.{BadLine as BadRow}
-use Rattle.printed_model.specs.Used.{Used, printed_in}
+use Rattle.printed_text.specs.Texts.{BadLine as BadRow}
+use Rattle.printed_text.specs.Used.{Used, printed_in}
 use Rattle.fib_words.specs.Commands.{Named, NamedCheckMoves, NamedMoves, NamedSave, Asked, Run, Check, Make, Steps, Same, Save, Moves, CheckMoves, command_of}
 use Rattle.fib_due.specs.declared.outcome.Which.TheVariants as which
 use Rattle.fib_due.specs.declared.outcome.Outcome.{Outcome}
 use Rattle.fib_due.specs.Stops.{Stop, Untold, Refused, LongPath, rowed, FailsDue, IsDueIfTold}
 use Rattle.std.specs.Prelude.{OnOk, nat_lt, option_map}
 use Rattle.route_model.specs.Events.{Event}
-use Rattle.route_model.specs.Choice.{Offer, Place}
-use Rattle.saved_model.specs.Saved.{long_one, most_peers, peers_with_candidates}
-use Rattle.texts_model.specs.Texts.{ComesTo, Difference, least_difference}
-use Rattle.texts_model.proofs.Found.{all_found}
-use Rattle.texts_model.proofs.Told.{all_alike}
+use Rattle.route_model.specs.Choice.{PathAttrs, Place}
+use Rattle.mrt_write.specs.Saved.{long_one, most_peers, peers_with_candidates}
+use Rattle.fib_same.specs.Texts.{ComparesTo, Difference, least_difference}
+use Rattle.fib_same.proofs.Found.{all_found}
+use Rattle.fib_same.proofs.Told.{all_alike}
 use Rattle.mrt_write.specs.Reads.{after_events}
 use Rattle.fib_save.specs.Restores.{Restores}
-use Rattle.fib_same.specs.Due.{Compared, same_at, told_of}
+use Rattle.fib_same.specs.Due.{Compared, same_at, told_difference}
 use Rattle.fib_same.specs.Due as same
-use Rattle.router_moves.specs.Due.{asked_at as router_at}
+use Rattle.router_moves.specs.Due.{router_at}
 use Rattle.router_moves.specs.Due as router
 use Rattle.router_moves.specs.Checked.{claimed_at}
 use Rattle.router_moves.specs.Checked as claims
@@ -78,7 +78,7 @@ ran_stops content named asked o a f = rw a (ran_refused (run_at content named) o
 
 -- ---- a checkpoint alone comes of one
 
-long_only : (said : List Event) (c : Option (Place × Offer)) → IsSavedOnly (unless_long said c)
+long_only : (said : List Event) (c : Option (Place × PathAttrs)) → IsSavedOnly (unless_long said c)
 long_only said None = tt
 long_only said (Some c) = tt
 
@@ -137,9 +137,9 @@ yes_proves = each_checked YesProves (λ used fit none. soundness_law used.routes
 -- ---- what holds of all texts that are compared
 
 all_compare : (texts : Compared) → Compares texts
-all_compare texts = record { found = all_found texts.first texts.others; alike = λ none. all_alike texts.first texts.others (subst (ComesTo texts.first texts.others) (by_none (least_difference texts.first texts.others) none) (all_found texts.first texts.others)) }
+all_compare texts = record { found = all_found texts.first texts.others; alike = λ none. all_alike texts.first texts.others (subst (ComparesTo texts.first texts.others) (by_none (least_difference texts.first texts.others) none) (all_found texts.first texts.others)) }
   where
-    by_none : (x : Option Difference) → option_map (told_of texts) x ≡ None → x ≡ None
+    by_none : (x : Option Difference) → option_map (told_difference texts) x ≡ None → x ≡ None
     by_none None e = refl
     by_none (Some x) e = absurd cc
 
@@ -160,13 +160,13 @@ unfolding due
 compares words content = words_compare content (command_of words)
 
 -- what holds of a run that is due holds of texts and of a checkpoint, which are none
-pub same_ran : (P : Printed → Type 0) (t : Result Compared same.Stop) → IfRan (compared t) P
+pub same_ran : (P : Printed → Type 0) (t : Result Compared same.TextStop) → IfRan (compared t) P
 same_ran P t = all_texts (λ d. IfRan d P) Alike t (λ x e. tt) (λ p. tt) (λ stop. tt)
 
-pub moves_ran : (P : Printed → Type 0) (steady : Bool) (t : Result router.Asked same.Stop) → IfRan (moved steady t) P
+pub moves_ran : (P : Printed → Type 0) (steady : Bool) (t : Result router.RouterTables same.TextStop) → IfRan (moved steady t) P
 moves_ran P steady t = all_texts (λ d. IfRan d P) (Moved steady) t (λ x e. tt) (λ p. tt) (λ stop. tt)
 
-pub claim_ran : (P : Printed → Type 0) (t : Result claims.Claimed same.Stop) → IfRan (claimed t) P
+pub claim_ran : (P : Printed → Type 0) (t : Result claims.Claimed same.TextStop) → IfRan (claimed t) P
 claim_ran P t = all_texts (λ d. IfRan d P) Claimed t (λ x e. tt) (λ p. tt) (λ stop. tt)
 
 pub save_ran : (P : Printed → Type 0) (d : Due) → IsSavedOnly d → IfRan d P
@@ -181,10 +181,10 @@ save_runs_none content named asked (Err e) a = tt
 -- ---- what holds of a router's table and routes, where it is due what the router must change
 
 -- what holds of those that any two texts hold
-abbrev pub OfEachRouter : (Bool → router.Asked → Type 0) → Type 0
+abbrev pub OfEachRouter : (Bool → router.RouterTables → Type 0) → Type 0
 OfEachRouter P = (content : List ℕ → Option (List ℕ)) (router printed : List ℕ) (steady : Bool) → IfMoved (moved steady (router_at content router printed)) P
 
-words_reroute : (P : Bool → router.Asked → Type 0) → OfEachRouter P → (content : List ℕ → Option (List ℕ)) (o : Option Asked) → IfMoved (usage o >>= output_at content) P
+words_reroute : (P : Bool → router.RouterTables → Type 0) → OfEachRouter P → (content : List ℕ → Option (List ℕ)) (o : Option Asked) → IfMoved (usage o >>= output_at content) P
 unfolding output_at
 words_reroute P each content None = tt
 words_reroute P each content (Some (Run named)) = all_of (λ d. IfMoved d P) Ran (λ p. tt) (λ stop. tt) (run_at content named)

@@ -8,15 +8,15 @@ use Rattle.table_model.specs.Address.{Address}
 use Rattle.table_model.specs.Changes.{Change, sum_of}
 use Rattle.table_model.specs.Entries.{AlikeInBoth, Entries, match_in, of_family}
 use Rattle.route_model.specs.Events.{Elem, Event, Announce, Withdraw, Down, IsEvent}
-use Rattle.printed_model.specs.Rows.{Vrp}
-use Rattle.fib_rov.specs.Rov.{judged, left_in, left_of, state_of}
+use Rattle.printed_text.specs.Rows.{Vrp}
+use Rattle.fib_rov.specs.Rov.{judged_by_vrps, left_in, left_of, state_of}
 use Rattle.fib_rov.specs.declared.state.State.{State}
 use Rattle.fib_rov.specs.declared.state.State.TheVariants as rov
 use Rattle.route_model.specs.Choice.{AreCandidates, Candidates, IsElem, after_elem, after_elems}
 use Rattle.route_model.proofs.Elems.{candidates_stay, elems_of_events}
 use Rattle.route_model.proofs.Said.{none_yet}
-use Rattle.reading_model.specs.Input.{Progress, Stopped, input}
-use Rattle.reading_model.proofs.Told.{read_events}
+use Rattle.wire_model.specs.Input.{Progress, Stopped, input}
+use Rattle.wire_model.proofs.Told.{read_events}
 use Rattle.table_model.proofs.Both.{aggregates_are, aggregates_sorted}
 use Rattle.table_model.specs.Width.{width}
 use Rattle.table_model.specs.Table.{Alike}
@@ -25,33 +25,33 @@ use Rattle.kept_model.proofs.Held.{Placed}
 use Rattle.kept_model.specs.Feed.{hops_after, entries_of}
 use Rattle.kept_model.proofs.Tables.{entries_sorted}
 use Rattle.kept_model.specs.Kept.{changed_at, kept_at_load, kept_by}
-use Rattle.steady_feed.specs.Meanwhile.{AnswerMeanwhile}
-use Rattle.fewest_feed.specs.Moved.{table_by}
-use Rattle.fewest_feed.specs.Reported.{moves_of_run, told_of_run}
-use Rattle.fewest_feed.proofs.Meanwhile.{meanwhile}
-use Rattle.fewest_feed.proofs.Moved.{from_placed}
-use Rattle.fewest_feed.proofs.Reported.{run_sum, table_step}
+use Rattle.kept_model.specs.Meanwhile.{AnswerMeanwhile}
+use Rattle.moves_model.specs.Moved.{table_by}
+use Rattle.moves_model.specs.Reported.{moves_of_run, told_of_run}
+use Rattle.moves_model.proofs.Meanwhile.{meanwhile}
+use Rattle.moves_model.proofs.Moved.{from_placed}
+use Rattle.moves_model.proofs.Reported.{run_sum, table_step}
 use Rattle.fib_same.specs.Due.{same_at}
-use Rattle.router_moves.specs.Due.{asked_at as router_at}
+use Rattle.router_moves.specs.Due.{router_at}
 use Rattle.router_moves.specs.Checked.{claimed_at}
 use Rattle.fib_words.specs.Commands.{Named, Asked, Run, Check, Make, Steps, Same, Save, Moves, CheckMoves, command_of}
 use Rattle.fib_due.proofs.Replies.{claim_ran, moves_ran, same_ran, save_ran, saved_only}
-use Rattle.printed_model.specs.Used.{Used}
+use Rattle.printed_text.specs.Used.{Used}
 use Rattle.fib_due.specs.declared.outcome.MrtInput.{MrtInput}
 use Rattle.fib_due.specs.declared.outcome.MrtInput.TheVariants.{Dump, Updates}
 use Rattle.std.specs.Prelude.{Bool, true, false, not, ◌&&◌}
 use Rattle.fib_io.specs.Pieces.{octets_read}
 use Rattle.poptrie_build.specs.Tries.{visits_of}
 use Rattle.fib_report.specs.Views.{Answer}
-use Rattle.whole_input.specs.Cuts.{is_cut, is_small}
+use Rattle.mrt_read.specs.Cuts.{is_cut, is_small}
 use Rattle.fib_due.specs.Stops.{Stop, bad_record, records_due, told_content, unless_stopped, whole_records, with_room}
 use Rattle.fib_due.specs.Refusals.{Limits, Refusal, routes_by, stop_at, too_much}
 use Rattle.route_tries.specs.Sizes.{Shortage, Sizes, shortage}
-use Rattle.step_world.specs.Stepping.{Stepping}
-use Rattle.fib_due.specs.Due.{Feed, Printed, stepped, stepping_at, printed, asks_at, feed_at, feeds_at, limits_of, load_at, made, made_at, sizes_of, feed_of, feed_in, elems_in, read_part, changes_of, kept_of, moves_of, told_at, run_at, used_at, vrps_at, output_at, ran, checked, due, usage, answers_to, saved_at}
+use Rattle.step_run.specs.Stepping.{Stepping}
+use Rattle.fib_due.specs.Due.{Feed, Printed, stepped, stepping_at, printed, asks_at, feed_at, feeds_at, limits_of, load_at, made, made_at, sizes_of, feed_of, feed_in, elems_in, read_part, run_changes, kept_of, run_moves, told_at, run_at, used_at, vrps_at, output_at, ran, checked, due, usage, answers_to, saved_at}
 use Rattle.fib_due.specs.Proves.{IfRan}
 use Rattle.fib_due.specs.Runs.{IfDue, SumsUp, Forwards, Answers, HasLeast, HasAggregate, Certified, InPrefixOrder, IsInOrder, HasHops}
-use Rattle.fib_due.specs.Keeps.{Follows, HasTable, HasRow, KeepsTables, MissesNone, MovesFewest, RenewsLeast, routes_before, routes_then, RepairsFewest, RepairsWithin, changes_to, entries_besides}
+use Rattle.fib_due.specs.Keeps.{Follows, HasTable, HasRow, KeepsTables, MissesNone, MovesFewest, RenewsLeast, routes_before_event, routes_then, RepairsFewest, RepairsWithin, changes_to, entries_besides}
 use Rattle.fib_due.proofs.Addressed.{has_hops}
 use Rattle.fib_due.proofs.Certifying.{certified_least, least_in_both}
 use Rattle.fib_due.proofs.Moving.{has_row, rows_say}
@@ -70,7 +70,7 @@ same_feed : (f g : Feed) → brought f ≡ brought g → f ≡ g
 same_feed f g e = cc
 
 -- so is what is left of events that are judged
-one_left : (vrps : List Vrp) (e : Event) → IsEvent e → IsEvent (judged vrps e).0
+one_left : (vrps : List Vrp) (e : Event) → IsEvent e → IsEvent (judged_by_vrps vrps e).0
 one_left vrps (Announce via p path hop origin) is = by_state (state_of vrps p origin)
   where
     by_state : (s : State) → IsEvent (left_in s (Announce via p path hop origin) (Withdraw via p)).0
@@ -255,7 +255,7 @@ table_at : (limits : Limits) (load updates : Feed) (asks : List Address) (done r
 table_at limits load updates asks done rest T q e h =
     let hops : List Address = hops_after [] (load.elems ++ updates.elems) in
     let held : Candidates = after_elems [] load.elems in
-    table_is limits.fewest limits.steady limits.every hops held done rest T (front_of done rest (subst (AllByRecursion IsElem) e q)) (subst (λ es. sum_of (changes_to (length done) (changes_of limits.fewest limits.steady limits.every hops load.elems es)) ≡ Some T) e h)
+    table_is limits.fewest limits.steady limits.every hops held done rest T (front_of done rest (subst (AllByRecursion IsElem) e q)) (subst (λ es. sum_of (changes_to (length done) (run_changes limits.fewest limits.steady limits.every hops load.elems es)) ≡ Some T) e h)
 
 proper_front : (updates : Feed) (done rest : List Elem) → AllByRecursion IsElem updates.elems → updates.elems ≡ done ++ rest → AllByRecursion IsElem done
 proper_front updates done rest q e = front_of done rest (subst (AllByRecursion IsElem) e q)
@@ -264,7 +264,7 @@ pub kept : (words : Words) (content : Content) → IfRan (due words content) Kee
 kept = each_due KeepsTables (λ limits load updates asks p q.
     let hops : List Address = hops_after [] (load.elems ++ updates.elems) in
     let held : Candidates = after_elems [] load.elems in
-    let changes : List Elem → List (ℕ × Change) = λ elems. changes_of limits.fewest limits.steady limits.every hops load.elems elems in
+    let changes : List Elem → List (ℕ × Change) = λ elems. run_changes limits.fewest limits.steady limits.every hops load.elems elems in
     record {
       in_order = in_order limits.fewest limits.steady limits.every hops held updates.elems;
       none_past = none_past limits.fewest limits.steady limits.every hops held updates.elems;
@@ -291,7 +291,7 @@ steadied = each_due MissesNone (λ limits load updates asks p q on.
     let hops : List Address = hops_after [] (load.elems ++ updates.elems) in
     let held : Candidates = after_elems [] load.elems in
     let one : Printed = printed limits load updates asks in
-    subst (λ b. AnswerMeanwhile (told_of_run limits.fewest b limits.every hops held updates.elems) (routes_before one) (routes_then one)) (sym on) (meanwhile limits.fewest limits.every hops held updates.elems (held_first load p) q))
+    subst (λ b. AnswerMeanwhile (told_of_run limits.fewest b limits.every hops held updates.elems) (routes_before_event one) (routes_then one)) (sym on) (meanwhile limits.fewest limits.every hops held updates.elems (held_first load p) q))
 
 pub renewed : (words : Words) (content : Content) → IfRan (due words content) RenewsLeast
 renewed = each_due RenewsLeast (λ limits load updates asks p q done rest T e snapshot h.
@@ -310,7 +310,7 @@ module _ (limits : Limits) (load updates : Feed) (asks : List Address) (done res
       let held : Candidates = after_elems [] load.elems in
       let all_one : updates.elems ≡ (done ++ elem ∷ []) ++ rest = e ∙ sym (append_assoc done (elem ∷ []) rest) in
       let counted : length done + 1 ≡ length (done ++ elem ∷ []) = sym (length-append done (elem ∷ [])) in
-      let after : U ≡ kept_of limits.fewest limits.every hops load.elems (done ++ elem ∷ []) = table_at limits load updates asks (done ++ elem ∷ []) rest U q all_one (subst (λ n. sum_of (changes_to n (changes_of limits.fewest limits.steady limits.every hops load.elems updates.elems)) ≡ Some U) counted k) in
+      let after : U ≡ kept_of limits.fewest limits.every hops load.elems (done ++ elem ∷ []) = table_at limits load updates asks (done ++ elem ∷ []) rest U q all_one (subst (λ n. sum_of (changes_to n (run_changes limits.fewest limits.steady limits.every hops load.elems updates.elems)) ≡ Some U) counted k) in
       after ∙ (table_step limits.fewest false limits.every hops held (kept_at_load hops held) done elem ∙ ap (λ K. table_by limits.fewest limits.every hops (length done + 1) (after_elems held done) K elem) (sym before_is))
 
   before_placed : Placed T
@@ -346,9 +346,9 @@ moved = each_due MovesFewest (λ limits load updates asks p q.
     let hops : List Address = hops_after [] (load.elems ++ updates.elems) in
     let held : Candidates = after_elems [] load.elems in
     let one : Printed = printed limits load updates asks in record {
-      none = λ off. ap (λ b. moves_of b limits.every hops load.elems updates.elems) off;
-      rows = λ on. rows_say one limits.steady (ap (λ b. changes_of b limits.steady limits.every hops load.elems updates.elems) on) (held_first load p) q (ap (λ b. moves_of b limits.every hops load.elems updates.elems) on);
+      none = λ off. ap (λ b. run_moves b limits.every hops load.elems updates.elems) off;
+      rows = λ on. rows_say one limits.steady (ap (λ b. run_changes b limits.steady limits.every hops load.elems updates.elems) on) (held_first load p) q (ap (λ b. run_moves b limits.every hops load.elems updates.elems) on);
       each = λ on done rest elem at e c.
-          subst (HasRow (length done + 1)) (sym (ap (λ b. moves_of b limits.every hops load.elems updates.elems) on))
+          subst (HasRow (length done + 1)) (sym (ap (λ b. run_moves b limits.every hops load.elems updates.elems) on))
           (subst (λ elems. HasRow (length done + 1) (moves_of_run true limits.every hops held elems)) (sym e) (has_row limits.every hops held done rest elem at c));
     })

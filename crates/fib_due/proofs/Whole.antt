@@ -5,14 +5,14 @@ use Rattle.std.proofs.lemmas.Bool.{le-leb, lt-leb}
 use Rattle.octet_fields.specs.Field.{◌>>=◌}
 use Rattle.wire_model.specs.Rules.{rule_number}
 use Rattle.route_model.specs.Events.{Event}
-use Rattle.reading_model.specs.Input.{Progress, Stopped, input}
+use Rattle.wire_model.specs.Input.{Progress, Stopped, input}
 use Rattle.fib_io.specs.Pieces.{octets_read}
-use Rattle.mrt_frame.specs.declared.Malformed as code_malformed
-use Rattle.whole_input.specs.Cuts.{is_cut, is_small}
-use Rattle.whole_input.specs.Whole.{EndsOrIsCut, HasEvents, IsBad, IsRefused, IsTooLarge}
-use Rattle.whole_input.specs.declared.whole.WholeError.{WholeError}
-use Rattle.whole_input.specs.declared.whole.WholeError.TheVariants as whole
-use Rattle.whole_input.proofs.Cutting.{goes_past}
+use Rattle.mrt_read.specs.declared.framer.Malformed as code_malformed
+use Rattle.mrt_read.specs.Cuts.{is_cut, is_small}
+use Rattle.mrt_read.specs.Whole.{EndsOrIsCut, HasEvents, IsBad, IsInputRefused, IsTooLarge}
+use Rattle.mrt_read.specs.declared.whole.WholeError.{WholeError}
+use Rattle.mrt_read.specs.declared.whole.WholeError.TheVariants as whole
+use Rattle.mrt_read.proofs.Cutting.{goes_past}
 use Rattle.fib_due.specs.declared.outcome.Outcome.TheVariants.{Malformed, TooLarge}
 use Rattle.fib_due.specs.declared.outcome.MrtInput.{MrtInput}
 use Rattle.fib_due.specs.declared.outcome.MrtInput.TheVariants.{Updates}
@@ -69,7 +69,7 @@ module _ (which : MrtInput) where
   told_due None events h = tt
   told_due (Some c) events h = rw (has_due c events h) refl
 
-  pub told_fails : (o : Option (List ℕ)) (error : WholeError) → IfSome o (IsRefused error) → FailsDue (refusal_by which error) (due_of o)
+  pub told_fails : (o : Option (List ℕ)) (error : WholeError) → IfSome o (IsInputRefused error) → FailsDue (refusal_by which error) (due_of o)
   told_fails None (whole.Malformed malformed) h = tt
   told_fails None whole.TooLarge h = tt
   told_fails (Some c) (whole.Malformed malformed) h = rw (bad_due c malformed h) refl
@@ -83,7 +83,7 @@ unfolding events_of
 whole_due content name events h = told_due Updates (content name) events h
 
 -- what was refused is what is due, but for a fault of reading and want of memory
-pub whole_fails : (content : List ℕ → Option (List ℕ)) (name : List ℕ) (error : WholeError) → IfSome (content name) (IsRefused error) → FailsDue (refusal_of_whole error) (events_at content name)
+pub whole_fails : (content : List ℕ → Option (List ℕ)) (name : List ℕ) (error : WholeError) → IfSome (content name) (IsInputRefused error) → FailsDue (refusal_of_whole error) (events_at content name)
 unfolding events_of
 whole_fails content name error h = told_fails Updates (content name) error h
 
@@ -92,6 +92,6 @@ pub all_due : (which : MrtInput) (content : List ℕ → Option (List ℕ)) (nam
 unfolding events_of
 all_due which content name events h = told_due which (content name) events h
 
-pub all_fails : (which : MrtInput) (content : List ℕ → Option (List ℕ)) (name : List ℕ) (error : WholeError) → IfSome (content name) (IsRefused error) → FailsDue (refusal_by which error) (events_of which content name)
+pub all_fails : (which : MrtInput) (content : List ℕ → Option (List ℕ)) (name : List ℕ) (error : WholeError) → IfSome (content name) (IsInputRefused error) → FailsDue (refusal_by which error) (events_of which content name)
 unfolding events_of
 all_fails which content name error h = told_fails which (content name) error h

@@ -5,7 +5,7 @@ use Rattle.bstr.specs.Text.{without_terminator}
 use Rattle.octet_fields.specs.Field.{◌>>=◌}
 use Rattle.table_model.specs.Address.{Address}
 use Rattle.fib_addr.specs.Text.{address_in}
-use Rattle.printed_model.specs.Texts.{lines_of, line_texts}
+use Rattle.printed_text.specs.Texts.{lines_of, line_texts}
 
 -- the address in front of more, or the number of its line where it is none
 abbrev pub address_or : ℕ → Option Address → Result (List Address) ℕ → Result (List Address) ℕ

@@ -4,8 +4,8 @@ use Rattle.table_model.specs.Address.{Address}
 use Rattle.cert_model.specs.Verdict.{No, Twice, NotSame, Shape, LeafWrong, JoinWrong, NotLeast, verdict}
 use Rattle.fib_addr.specs.Hops.{hop_at}
 use Rattle.fib_addr.specs.Text.{address_text, prefix_text}
-use Rattle.printed_model.specs.Rows.{family_name, hop_text, line}
-use Rattle.printed_model.specs.Used.{Used}
+use Rattle.printed_text.specs.Rows.{family_name, hop_text, line}
+use Rattle.printed_text.specs.Used.{Used}
 
 -- the first thing that is wrong with the rows of a printed text, if anything is
 abbrev pub verdict_of : Used → Option No

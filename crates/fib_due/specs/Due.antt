@@ -7,11 +7,11 @@ use Rattle.table_model.specs.Changes.{Change}
 use Rattle.table_model.specs.Both.{aggregate_in_both}
 use Rattle.cert_model.specs.Rows.{certificate_of}
 use Rattle.route_model.specs.Events.{Elem, Event}
-use Rattle.route_model.specs.Choice.{Candidates, Offer, Place, after_elems, elems_after}
-use Rattle.reading_model.specs.Input.{Progress, Stopped, input}
+use Rattle.route_model.specs.Choice.{Candidates, PathAttrs, Place, after_elems, elems_after}
+use Rattle.wire_model.specs.Input.{Progress, Stopped, input}
 use Rattle.kept_model.specs.Feed.{hops_after, entries_of}
-use Rattle.fewest_feed.specs.Moved.{table_of_run}
-use Rattle.fewest_feed.specs.Reported.{moves_of_run, told_of_run}
+use Rattle.moves_model.specs.Moved.{table_of_run}
+use Rattle.moves_model.specs.Reported.{moves_of_run, told_of_run}
 use Rattle.poptrie_build.specs.Tries.{visits_of}
 use Rattle.route_tries.specs.Sizes.{Sizes, needs_of, shortage}
 use Rattle.route_tries.specs.declared.needs.FamilyNeeds.{FamilyNeeds}
@@ -21,18 +21,18 @@ use Rattle.fib_report.specs.Rows.{report_text, run_text}
 use Rattle.fib_report.specs.declared.run.Report.{Report}
 use Rattle.cert_model.specs.Verdict.{No, Twice}
 use Rattle.fib_addr.specs.Text.{address_text}
-use Rattle.printed_model.specs.Rows.{hop_text, line}
-use Rattle.saved_model.specs.Saved.{long_one, most_peers, peers_with_candidates, saved}
+use Rattle.printed_text.specs.Rows.{hop_text, line}
+use Rattle.mrt_write.specs.Saved.{long_one, most_peers, peers_with_candidates, saved}
 use Rattle.mrt_write.specs.Reads.{after_events}
 use Rattle.fib_same.specs.Due.{Compared, TextDifference, answer_of, same_at}
 use Rattle.fib_same.specs.Due as same
-use Rattle.router_model.specs.Claims.{WrongMoves, claim_verdict}
-use Rattle.router_moves.specs.Due.{asked_at as router_at, moves_for}
+use Rattle.moves_model.specs.Claims.{WrongMoves, claim_verdict}
+use Rattle.router_moves.specs.Due.{router_at, moves_for}
 use Rattle.router_moves.specs.Due as router
 use Rattle.router_moves.specs.Checked.{claimed_at}
 use Rattle.router_moves.specs.Checked as claims
-use Rattle.printed_model.specs.Used.{Used, printed_in}
-use Rattle.printed_model.specs.Rows.{Announced, Vrp}
+use Rattle.printed_text.specs.Used.{Used, printed_in}
+use Rattle.printed_text.specs.Rows.{Announced, Vrp}
 use Rattle.fib_rov.specs.Lines.{vrps_in}
 use Rattle.fib_rov.specs.Rov.{invalid_in, left_of}
 use Rattle.fib_words.specs.Commands.{Named, NamedCheckMoves, NamedMoves, NamedSame, NamedSave, NamedSteps, Asked, Run, Check, Make, Steps, Same, Save, Moves, CheckMoves, command_of}
@@ -41,17 +41,17 @@ use Rattle.fib_due.specs.declared.outcome.MrtInput.{MrtInput}
 use Rattle.fib_due.specs.declared.outcome.MrtInput.TheVariants.{Dump, Updates}
 use Rattle.fib_due.specs.declared.outcome.Which.{Which}
 use Rattle.fib_due.specs.declared.outcome.Which.TheVariants as all
-use Rattle.fib_due.specs.Stops.{Stop, Refused, LongPath, Untold, told_content, sized, lined, lined_past, listed, rowed, scripted, records_due, unless_stopped, with_room}
+use Rattle.fib_due.specs.Stops.{Stop, Refused, LongPath, Untold, told_content, sized, lined, lined_past, listed_vrps, rowed, scripted, records_due, unless_stopped, with_room}
 use Rattle.fib_due.specs.Refusals.{Limits, routes_by, stop_at, too_much}
 use Rattle.fib_due.specs.RouterRows.{router_text}
 use Rattle.fib_io.specs.Pieces.{octets_read}
-use Rattle.whole_input.specs.Cuts.{is_small}
+use Rattle.mrt_read.specs.Cuts.{is_small}
 use Rattle.fib_due.specs.Asks.{asks_in, ended_asks_in}
 use Rattle.fib_due.specs.Checks.{verdict_of, verdict_text}
 use Rattle.fib_due.specs.MovesChecks.{claim_text}
-use Rattle.step_model.specs.Script.{Step, script_in}
-use Rattle.step_model.specs.Machine.{World}
-use Rattle.step_world.specs.Stepping.{Stepping, world_of}
+use Rattle.step_script.specs.Script.{Step, script_in}
+use Rattle.step_script.specs.Machine.{World}
+use Rattle.step_run.specs.Stepping.{Stepping, world_of}
 use Rattle.fib_due.specs.Stepping.{events_at, events_of}
 
 abbrev pub usage : Option Asked → Result Asked Stop
@@ -65,12 +65,12 @@ input_at content which name = do
   sized which octets
 
 -- The asks that an input's octets have, or the first line that is neither empty nor an address. Of an input of more than 2^36 octets only the first 2^36 are read: it is too large, unless a line that they have with its line feed is bad.
-unfoldable pub asks_of : List ℕ → Result (List Address) Stop
-asks_of octets = if is_small octets then lined all.Asks (asks_in octets) else lined_past all.Asks (ended_asks_in (octets_read octets))
+unfoldable pub asks_from : List ℕ → Result (List Address) Stop
+asks_from octets = if is_small octets then lined all.Asks (asks_in octets) else lined_past all.Asks (ended_asks_in (octets_read octets))
 
 -- the same of an input, where it is told
 abbrev pub told_asks : Option (List ℕ) → Result (List Address) Stop
-told_asks content = told_content content >>= asks_of
+told_asks content = told_content content >>= asks_from
 
 -- the addresses that are asked for, none where no asks are named
 unfoldable pub asks_at : (List ℕ → Option (List ℕ)) → Option (List ℕ) → Result (List Address) Stop
@@ -81,7 +81,7 @@ asks_at content (Some name) = told_asks (content name)
 unfoldable pub vrps_in_input : (List ℕ → Option (List ℕ)) → List ℕ → Result (List Vrp) Stop
 vrps_in_input content name = do
   octets ← input_at content all.Vrps name
-  listed (vrps_in octets)
+  listed_vrps (vrps_in octets)
 
 -- the list of VRPs that announcements are judged by, empty where none is named
 unfoldable pub vrps_at : (List ℕ → Option (List ℕ)) → Option (List ℕ) → Result (List Vrp) Stop
@@ -192,13 +192,13 @@ abbrev pub kept_of : Bool → ℕ → List Address → List Elem → List Elem �
 kept_of fewest every hops load updates = table_of_run fewest every hops (after_elems [] load) updates
 
 -- its changes as they are told, in steady order or in that of prefixes: those of the load, event 0, and those of each elementary event of the updates
-abbrev pub changes_of : Bool → Bool → ℕ → List Address → List Elem → List Elem → List (ℕ × Change)
-changes_of fewest steady every hops load updates = told_of_run fewest steady every hops (after_elems [] load) updates
+abbrev pub run_changes : Bool → Bool → ℕ → List Address → List Elem → List Elem → List (ℕ × Change)
+run_changes fewest steady every hops load updates = told_of_run fewest steady every hops (after_elems [] load) updates
 
 -- the number of each elementary event of the updates that changes a chosen hop, with that of the changes it needs before a snapshot; told where the fewest changes are asked for
-abbrev pub moves_of : Bool → ℕ → List Address → List Elem → List Elem → List (ℕ × ℕ)
-moves_of false every hops load updates = []
-moves_of true every hops load updates = moves_of_run true every hops (after_elems [] load) updates
+abbrev pub run_moves : Bool → ℕ → List Address → List Elem → List Elem → List (ℕ × ℕ)
+run_moves false every hops load updates = []
+run_moves true every hops load updates = moves_of_run true every hops (after_elems [] load) updates
 
 -- of these routes, and of a kept table, its changes and how many each event needs, with so many direct bits: the routes, the announcements that are Invalid, the changes, how many each event needs, each address with its answer, the table, the aggregate of the routes with the kept table as the old one, the certificate that it is least, and the counts
 abbrev pub run_of : ℕ → Entries → Entries → List (ℕ × Change) → List (ℕ × ℕ) → List Address → Feed → Feed → Told
@@ -225,7 +225,7 @@ pub record Printed : Type 0 where
 -- the numbers are those after all elementary events
 abbrev pub printed_by : List Address → Limits → Feed → Feed → List Address → Printed
 printed_by hops limits load updates asks = record {
-  told = run_of limits.sizes.direct (entries_of hops (after_elems [] (load.elems ++ updates.elems))) (kept_of limits.fewest limits.every hops load.elems updates.elems) (changes_of limits.fewest limits.steady limits.every hops load.elems updates.elems) (moves_of limits.fewest limits.every hops load.elems updates.elems) asks load updates;
+  told = run_of limits.sizes.direct (entries_of hops (after_elems [] (load.elems ++ updates.elems))) (kept_of limits.fewest limits.every hops load.elems updates.elems) (run_changes limits.fewest limits.steady limits.every hops load.elems updates.elems) (run_moves limits.fewest limits.every hops load.elems updates.elems) asks load updates;
   hops = hops;
   limits = limits;
   load = load.elems;
@@ -302,7 +302,7 @@ pub data Output : Type 0 where
   Alike : Compared → Output
   Repeats : Prefix → Output
   Saved : List Event → Output
-  Moved : Bool → router.Asked → Output
+  Moved : Bool → router.RouterTables → Output
   Claimed : claims.Claimed → Output
 
 abbrev pub ran : Result Printed Stop → Result Output Stop
@@ -321,7 +321,7 @@ stepped stepping = stepping >>= λ s. Err Untold
 -- ---- texts that are compared
 
 -- What is to be printed of what texts hold. A text that can't be read is refused, and one in which a prefix stands twice has the verdict of a check on it.
-abbrev pub of_texts : {X : Type 0} → (X → Output) → Result X same.Stop → Result Output Stop
+abbrev pub of_texts : {X : Type 0} → (X → Output) → Result X same.TextStop → Result Output Stop
 of_texts output (Ok x) = Ok (output x)
 of_texts output (Err same.Untold) = Err Untold
 of_texts output (Err (same.Refused (same.TooLarge n))) = Err (Refused (TooLarge (all.Text n)))
@@ -329,7 +329,7 @@ of_texts output (Err (same.Refused (same.BadLine n line why))) = Err (Refused (B
 of_texts output (Err (same.Refused (same.Twice n p))) = Ok (Repeats p)
 
 -- what comparing texts comes to
-abbrev pub compared : Result Compared same.Stop → Result Output Stop
+abbrev pub compared : Result Compared same.TextStop → Result Output Stop
 compared texts = of_texts Alike texts
 
 -- the texts of these names, with their rows of this kind
@@ -337,14 +337,14 @@ abbrev pub compared_at : (List ℕ → Option (List ℕ)) → NamedSame → Resu
 compared_at content named = compared (same_at content named.rows named.first named.rest)
 
 -- what a router must change whose table is the one text's, to forward as the routes of the other
-abbrev pub moved : Bool → Result router.Asked same.Stop → Result Output Stop
+abbrev pub moved : Bool → Result router.RouterTables same.TextStop → Result Output Stop
 moved steady texts = of_texts (Moved steady) texts
 
 abbrev pub moved_at : (List ℕ → Option (List ℕ)) → NamedMoves → Result Output Stop
 moved_at content named = moved named.steady (router_at content named.router named.printed)
 
 -- what it was told to change by a third text, and whether no fewer changes would do
-abbrev pub claimed : Result claims.Claimed same.Stop → Result Output Stop
+abbrev pub claimed : Result claims.Claimed same.TextStop → Result Output Stop
 claimed texts = of_texts Claimed texts
 
 abbrev pub claims_at : (List ℕ → Option (List ℕ)) → NamedCheckMoves → Result Output Stop
@@ -365,7 +365,7 @@ said_at content named = do
   Ok (load ++ later)
 
 -- unless the path of a candidate is too long
-abbrev pub unless_long : List Event → Option (Place × Offer) → Result Output Stop
+abbrev pub unless_long : List Event → Option (Place × PathAttrs) → Result Output Stop
 unless_long said None = Ok (Saved said)
 unless_long said (Some c) = Err (LongPath c.0.prefix c.1.path)
 

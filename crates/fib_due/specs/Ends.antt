@@ -1,7 +1,7 @@
 -- What a run or a check leaves.
 use Rattle.std.specs.Prelude.{◌≡◌, ℕ, List, [], ◌∷◌, ◌++◌, codes, decimal, Option, Some, None, IfSome, Result, Ok, Err, ◌⊎◌, option_to_list}
 use Rattle.fib_io.specs.Causes.{Rose}
-use Rattle.printed_model.specs.Rows.{Vrp}
+use Rattle.printed_text.specs.Rows.{Vrp}
 use Rattle.fib_io.specs.Octets.{Adds, AddsSome}
 use Rattle.fib_addr.specs.Text.{prefix_text}
 use Rattle.fib_addr.specs.Views.{prefix_as}
@@ -13,7 +13,7 @@ use Rattle.fib_same.specs.Views.{difference_as}
 use Rattle.fib_same.specs.declared.compare.Difference as code_difference
 use Rattle.cert_check.specs.declared.refusal.No as code
 use Rattle.cert_check.specs.Views.{no_as}
-use Rattle.router_moves.specs.Judged.{wrong_as as wrong_moves_as}
+use Rattle.router_moves.specs.Judged.{wrong_moves_as}
 use Rattle.router_moves.specs.declared.verdict.WrongMoves as code_moves
 use Rattle.fib_due.specs.declared.outcome.Which.{Which}
 use Rattle.fib_due.specs.declared.outcome.Which.TheVariants.{Asks, Vrps, Dump, Updates, Printed, Script, Text}

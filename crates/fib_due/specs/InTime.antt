@@ -1,11 +1,11 @@
 -- Behind which octets an input may be read on: those of which nothing is refused.
 use Rattle.std.specs.Prelude.{◌≡◌, ℕ, List, [], Option, None, IfOk, IsOk}
 use Rattle.route_model.specs.Events.{Elem}
-use Rattle.printed_model.specs.Rows.{Vrp}
-use Rattle.reading_model.specs.Input.{input}
+use Rattle.printed_text.specs.Rows.{Vrp}
+use Rattle.wire_model.specs.Input.{input}
 use Rattle.route_tries.specs.Sizes.{Sizes}
 use Rattle.fib_words.specs.Commands.{Named, NamedSteps}
-use Rattle.whole_input.specs.Whole.{MayGoOn}
+use Rattle.mrt_read.specs.Whole.{MayGoOn}
 use Rattle.fib_due.specs.declared.outcome.MrtInput.{MrtInput}
 use Rattle.fib_due.specs.declared.outcome.MrtInput.TheVariants as mrt
 use Rattle.fib_due.specs.declared.outcome.Which.{Which}

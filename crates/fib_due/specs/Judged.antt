@@ -3,7 +3,7 @@ use Rattle.std.specs.Prelude.{◌≡◌, ℕ, List, [], ◌++◌, Option, Some, 
 use Rattle.route_model.specs.Events.{Event}
 use Rattle.route_model.specs.Choice.{after_elems, elems_after}
 use Rattle.kept_model.specs.Feed.{entries_of}
-use Rattle.printed_model.specs.Rows.{Vrp}
+use Rattle.printed_text.specs.Rows.{Vrp}
 use Rattle.fib_rov.specs.Rov.{invalid_in, left_of}
 use Rattle.fib_words.specs.Commands.{Asked, Run, Check, Make, Steps, Same, Save, Moves, CheckMoves}
 use Rattle.fib_due.specs.declared.outcome.MrtInput.TheVariants.{Dump}

@@ -16,7 +16,7 @@ use Rattle.route_model.specs.Choice.{Candidates, after_elems}
 use Rattle.kept_model.specs.Feed.{changes_in, entries_of}
 use Rattle.kept_model.specs.Kept.{changed_at, is_due}
 use Rattle.moves_model.specs.Dist.{distance}
-use Rattle.steady_feed.specs.Meanwhile.{AnswerMeanwhile, earlier_routes, event_routes}
+use Rattle.kept_model.specs.Meanwhile.{AnswerMeanwhile, earlier_routes, event_routes}
 use Rattle.fib_due.specs.Due.{Printed}
 
 -- the changes up to the event of this number
@@ -34,12 +34,12 @@ pub record KeepsTables (p : Printed) : Type 0 where
   pub tables : (n : ℕ) → n ≤ length p.updates → (T : Entries) × HasTable p n T
 
 -- the candidates after the load and these elementary events
-abbrev pub held_after : Printed → List Elem → Candidates
-held_after p done = after_elems (after_elems [] p.load) done
+abbrev pub cands_after : Printed → List Elem → Candidates
+cands_after p done = after_elems (after_elems [] p.load) done
 
 -- their routes
-abbrev pub routes_after : Printed → List Elem → Entries
-routes_after p done = entries_of p.hops (held_after p done)
+abbrev pub routes_after_elems : Printed → List Elem → Entries
+routes_after_elems p done = entries_of p.hops (cands_after p done)
 
 -- a snapshot follows the event of this number: the load, and each so many-th event of the updates
 abbrev pub has_snapshot : ℕ → ℕ → Bool
@@ -48,22 +48,22 @@ has_snapshot every (suc n) = is_due every (suc n)
 
 -- After each event the table sends every address where the routes send it then.
 abbrev pub Follows : Printed → Type 0
-Follows p = (done rest : List Elem) (T : Entries) → p.updates ≡ done ++ rest → HasTable p (length done) T → AlikeInBoth T (routes_after p done)
+Follows p = (done rest : List Elem) (T : Entries) → p.updates ≡ done ++ rest → HasTable p (length done) T → AlikeInBoth T (routes_after_elems p done)
 
 -- the routes before and after the event of a number; before the load, event 0, there are none
-abbrev pub routes_before : Printed → ℕ → Entries
-routes_before p = earlier_routes p.hops (held_after p []) p.updates
+abbrev pub routes_before_event : Printed → ℕ → Entries
+routes_before_event p = earlier_routes p.hops (cands_after p []) p.updates
 
 abbrev pub routes_then : Printed → ℕ → Entries
-routes_then p = event_routes p.hops (held_after p []) p.updates
+routes_then p = event_routes p.hops (cands_after p []) p.updates
 
 -- Where changes are told in steady order, a router that makes them one by one misses no packet meanwhile: whatever front of them it has made, it sends each address where the routes before the event at hand send it or where those after it do, and never back.
 abbrev pub MissesNone : Printed → Type 0
-MissesNone p = p.limits.steady ≡ true → AnswerMeanwhile p.told.changes (routes_before p) (routes_then p)
+MissesNone p = p.limits.steady ≡ true → AnswerMeanwhile p.told.changes (routes_before_event p) (routes_then p)
 
 -- After each snapshot no table that does so has fewer entries, in either family.
 abbrev pub RenewsLeast : Printed → Type 0
-RenewsLeast p = (done rest : List Elem) (T : Entries) → p.updates ≡ done ++ rest → has_snapshot p.limits.every (length done) ≡ true → HasTable p (length done) T → LeastInBoth (routes_after p done) T
+RenewsLeast p = (done rest : List Elem) (T : Entries) → p.updates ≡ done ++ rest → has_snapshot p.limits.every (length done) ≡ true → HasTable p (length done) T → LeastInBoth (routes_after_elems p done) T
 
 -- The table L, in this prefix's family, sends every address where these routes send it, and has T's entries outside the prefix.
 pub record DoesWithin (q : Prefix) (R T L : Entries) : Type 0 where
@@ -74,8 +74,8 @@ pub record DoesWithin (q : Prefix) (R T L : Entries) : Type 0 where
 -- Where the fewest changes aren't asked for: after each event that changes the chosen hop of a prefix, no table that sends every address of the family where the routes send it then, and has the entries of the table before outside the prefix, has fewer entries of the family.
 abbrev pub RepairsFewest : Printed → Type 0
 RepairsFewest p =
-    p.limits.fewest ≡ false → (done rest : List Elem) (elem : Elem) (q : Prefix) (T U L : Entries) → p.updates ≡ done ++ elem ∷ rest → changed_at (held_after p done) elem ≡ Some q
-    → HasTable p (length done) T → HasTable p (length done + 1) U → DoesWithin q (routes_after p (done ++ elem ∷ [])) T L
+    p.limits.fewest ≡ false → (done rest : List Elem) (elem : Elem) (q : Prefix) (T U L : Entries) → p.updates ≡ done ++ elem ∷ rest → changed_at (cands_after p done) elem ≡ Some q
+    → HasTable p (length done) T → HasTable p (length done + 1) U → DoesWithin q (routes_after_elems p (done ++ elem ∷ [])) T L
     → length (of_family q.family U) ≤ length (of_family q.family L)
 
 -- the entries that aren't within the prefix, if there is one
@@ -88,17 +88,17 @@ abbrev pub RepairsWithin : Printed → Type 0
 RepairsWithin p =
     p.limits.fewest ≡ false → (done rest : List Elem) (elem : Elem) (T U : Entries) → p.updates ≡ done ++ elem ∷ rest → has_snapshot p.limits.every (length done + 1) ≡ false
     → HasTable p (length done) T → HasTable p (length done + 1) U
-    → entries_besides (changed_at (held_after p done) elem) U ≡ entries_besides (changed_at (held_after p done) elem) T
+    → entries_besides (changed_at (cands_after p done) elem) U ≡ entries_besides (changed_at (cands_after p done) elem) T
 
 -- ---- the fewest changes
 
 -- the changes of the event of this number
-abbrev pub changes_at : ℕ → List (ℕ × Change) → List Change
-changes_at n changes = changes_in (filter (λ c. nat_eq c.0 n) changes)
+abbrev pub event_changes : ℕ → List (ℕ × Change) → List Change
+event_changes n changes = changes_in (filter (λ c. nat_eq c.0 n) changes)
 
 -- the changes up to the event before this one, and then the first so many of this one's
 abbrev pub changes_into : ℕ → ℕ → List (ℕ × Change) → List Change
-changes_into n many changes = changes_to n changes ++ take many (changes_at (n + 1) changes)
+changes_into n many changes = changes_to n changes ++ take many (event_changes (n + 1) changes)
 
 -- A row that tells how many changes an event needed is that of an event which changes the chosen hop of a prefix.
 pub record IsFewestRow (p : Printed) (row : ℕ × ℕ) : Type 0 where
@@ -108,15 +108,15 @@ pub record IsFewestRow (p : Printed) (row : ℕ × ℕ) : Type 0 where
   pub prefix : Prefix
   pub place : p.updates ≡ done ++ elem ∷ rest
   pub number : row.0 ≡ length done + 1
-  pub changed : changed_at (held_after p done) elem ≡ Some prefix
+  pub changed : changed_at (cands_after p done) elem ≡ Some prefix
   -- after the first so many changes of the event the table sends every address where the routes send it then
   pub table : Entries
   pub reached : sum_of (changes_into (length done) row.1 p.told.changes) ≡ Some table
-  pub alike : AlikeInBoth (routes_after p (done ++ elem ∷ [])) table
+  pub alike : AlikeInBoth (routes_after_elems p (done ++ elem ∷ [])) table
   -- these are all of its changes, unless a snapshot follows
-  pub all : has_snapshot p.limits.every row.0 ≡ false → length (changes_at row.0 p.told.changes) ≡ row.1
+  pub all : has_snapshot p.limits.every row.0 ≡ false → length (event_changes row.0 p.told.changes) ≡ row.1
   -- and no table that sends every address of the prefix's family where the routes send it then differs from the table before the event at fewer prefixes
-  pub fewest : (T : Entries) (U : Table) → HasTable p (length done) T → Alike (width prefix.family) (of_family prefix.family (routes_after p (done ++ elem ∷ []))) U → row.1 ≤ distance (of_family prefix.family T) U
+  pub fewest : (T : Entries) (U : Table) → HasTable p (length done) T → Alike (width prefix.family) (of_family prefix.family (routes_after_elems p (done ++ elem ∷ []))) U → row.1 ≤ distance (of_family prefix.family T) U
 
 -- an event has a row
 abbrev pub HasRow : ℕ → List (ℕ × ℕ) → Type 0
@@ -126,4 +126,4 @@ HasRow event rows = (before after : List (ℕ × ℕ)) × (n : ℕ) × (rows ≡
 pub record MovesFewest (p : Printed) : Type 0 where
   pub none : p.limits.fewest ≡ false → p.told.moves ≡ []
   pub rows : p.limits.fewest ≡ true → AllByRecursion (IsFewestRow p) p.told.moves
-  pub each : p.limits.fewest ≡ true → (done rest : List Elem) (elem : Elem) (q : Prefix) → p.updates ≡ done ++ elem ∷ rest → changed_at (held_after p done) elem ≡ Some q → HasRow (length done + 1) p.told.moves
+  pub each : p.limits.fewest ≡ true → (done rest : List Elem) (elem : Elem) (q : Prefix) → p.updates ≡ done ++ elem ∷ rest → changed_at (cands_after p done) elem ≡ Some q → HasRow (length done + 1) p.told.moves

@@ -3,9 +3,9 @@ use Rattle.std.specs.Prelude.{List, ℕ, [], ◌∷◌, codes, decimal, Option, 
 use Rattle.table_model.specs.Address.{Address}
 use Rattle.table_model.specs.declared.family.Family.{Family}
 use Rattle.fib_addr.specs.Text.{address_text, prefix_text}
-use Rattle.moves_cert.specs.Verdict.{NoMoves, Twice, Apply, NotSame, Shape, LeafWrong, JoinWrong, NotShortest}
-use Rattle.printed_model.specs.Rows.{family_name, line}
-use Rattle.router_model.specs.Claims.{WrongMoves}
+use Rattle.moves_model.specs.Verdict.{NoMoves, Twice, Apply, NotSame, Shape, LeafWrong, JoinWrong, NotShortest}
+use Rattle.printed_text.specs.Rows.{family_name, line}
+use Rattle.moves_model.specs.Claims.{WrongMoves}
 use Rattle.fib_due.specs.Checks.{verdict_hop}
 
 -- what is wrong with the changes of a family or with its rows, in fields; both are counted within the family, and the hops have these numbers

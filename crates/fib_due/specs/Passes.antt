@@ -70,9 +70,9 @@ abbrev pub Judge : Type 1
 Judge = Which → List ℕ → Type 0
 
 -- one pass over each of these inputs, one after another, each to the input's end
-abbrev pub AllRead : Content → Judge → List Input → List Read → Type 0
-AllRead content Goes [] reads = reads ≡ []
-AllRead content Goes (input ∷ inputs) reads = (first rest : List Read) × (reads ≡ first ++ rest) × PassInTime (content input.1) (Goes input.0) AtEnd input.1 first × AllRead content Goes inputs rest
+abbrev pub InputsRead : Content → Judge → List Input → List Read → Type 0
+InputsRead content Goes [] reads = reads ≡ []
+InputsRead content Goes (input ∷ inputs) reads = (first rest : List Read) × (reads ≡ first ++ rest) × PassInTime (content input.1) (Goes input.0) AtEnd input.1 first × InputsRead content Goes inputs rest
 
 -- the inputs before this one are read, each to its end, then this one by a pass that ends so, and none after it
 pub record ReadUpTo (content : Content) (Goes : Judge) (inputs : List Input) (which : Which) (end : PassEnd) (reads : List Read) : Type 0 where
@@ -81,7 +81,7 @@ pub record ReadUpTo (content : Content) (Goes : Judge) (inputs : List Input) (wh
   pub after : List Input
   pub order : inputs ≡ before ++ (which, name) ∷ after
   pub first : List Read
-  pub whole : AllRead content Goes before first
+  pub whole : InputsRead content Goes before first
   pub last : List Read
   pub pass : PassInTime (content name) (Goes which) end name last
   pub all : reads ≡ first ++ last
@@ -97,7 +97,7 @@ pub record ReadInPart (content : Content) (Goes : Judge) (inputs : List Input) (
   pub after : List Input
   pub order : inputs ≡ before ++ after
   pub first : List Read
-  pub whole : AllRead content Goes before first
+  pub whole : InputsRead content Goes before first
   pub last : List Read
   pub begun : MayBegin content Goes after last
   pub all : reads ≡ first ++ last
@@ -129,18 +129,18 @@ StopsReading content Goes inputs Usage reads = ⊥
 
 -- the reads of a call: all of its inputs, or those up to the refusal
 abbrev pub ReadsOf : {X : Type 0} → Content → Judge → List Input → Result X Outcome → List Read → Type 0
-ReadsOf content Goes inputs (Ok x) reads = AllRead content Goes inputs reads
+ReadsOf content Goes inputs (Ok x) reads = InputsRead content Goes inputs reads
 ReadsOf content Goes inputs (Err o) reads = StopsReading content Goes inputs o reads
 
 -- The reads of inputs with this outcome. Each is read to its end at Done, where either check says no, where texts differ, where candidates can't be written and at a fault of writing; else they are read up to the refusal.
 abbrev pub ReadsTo : Content → Judge → List Input → Outcome → List Read → Type 0
-ReadsTo content Goes inputs Done reads = AllRead content Goes inputs reads
-ReadsTo content Goes inputs (CheckNo x) reads = AllRead content Goes inputs reads
-ReadsTo content Goes inputs (Differ x) reads = AllRead content Goes inputs reads
-ReadsTo content Goes inputs (MovesNo x) reads = AllRead content Goes inputs reads
-ReadsTo content Goes inputs (PeersFull peers) reads = AllRead content Goes inputs reads
-ReadsTo content Goes inputs (PathTooLong p n) reads = AllRead content Goes inputs reads
-ReadsTo content Goes inputs WriteFault reads = AllRead content Goes inputs reads
+ReadsTo content Goes inputs Done reads = InputsRead content Goes inputs reads
+ReadsTo content Goes inputs (CheckNo x) reads = InputsRead content Goes inputs reads
+ReadsTo content Goes inputs (Differ x) reads = InputsRead content Goes inputs reads
+ReadsTo content Goes inputs (MovesNo x) reads = InputsRead content Goes inputs reads
+ReadsTo content Goes inputs (PeersFull peers) reads = InputsRead content Goes inputs reads
+ReadsTo content Goes inputs (PathTooLong p n) reads = InputsRead content Goes inputs reads
+ReadsTo content Goes inputs WriteFault reads = InputsRead content Goes inputs reads
 ReadsTo content Goes inputs o reads = StopsReading content Goes inputs o reads
 
 -- texts up to one in which something is wrong, which is read to its end
@@ -150,7 +150,7 @@ ReadToOne content inputs reads = (which : Which) × ReadUpTo content TextMayGoOn
 -- The reads of texts that are compared, or of which one is a router's: a text in which a prefix stands twice is the last one that is read.
 abbrev pub ReadsTexts : Content → List Input → Outcome → List Read → Type 0
 ReadsTexts content inputs (CheckNo x) reads = ReadToOne content inputs reads
-ReadsTexts content inputs WriteFault reads = AllRead content TextMayGoOn inputs reads ⊎ ReadToOne content inputs reads
+ReadsTexts content inputs WriteFault reads = InputsRead content TextMayGoOn inputs reads ⊎ ReadToOne content inputs reads
 ReadsTexts content inputs o reads = ReadsTo content TextMayGoOn inputs o reads
 
 -- The reads of what words ask for: those of the inputs that they name. No read of an input is made once what was read of it before is to be refused, where the input tells what it holds. Words that are no command read nothing, and what is made of a number isn't read.
@@ -167,9 +167,9 @@ ReadsAt content (Some (CheckMoves named)) o reads = ReadsTexts content (check_mo
 
 -- the reads of texts that are compared, by what was found wrong
 abbrev pub ReadsFound : Content → List Input → Option Wrong → List Read → Type 0
-ReadsFound content inputs None reads = AllRead content TextMayGoOn inputs reads
-ReadsFound content inputs (Some (wrong.Differ d)) reads = AllRead content TextMayGoOn inputs reads
-ReadsFound content inputs (Some (wrong.MovesNo w)) reads = AllRead content TextMayGoOn inputs reads
+ReadsFound content inputs None reads = InputsRead content TextMayGoOn inputs reads
+ReadsFound content inputs (Some (wrong.Differ d)) reads = InputsRead content TextMayGoOn inputs reads
+ReadsFound content inputs (Some (wrong.MovesNo w)) reads = InputsRead content TextMayGoOn inputs reads
 ReadsFound content inputs (Some (wrong.No x)) reads = ReadToOne content inputs reads
 
 -- the same of a call that gives a reply
@@ -179,7 +179,7 @@ ReadsCompared content inputs (Err o) reads = StopsReading content TextMayGoOn in
 
 -- the same of a checkpoint
 abbrev pub ReadsSaved : Content → List Input → Result Reply Outcome → List Read → Type 0
-ReadsSaved content inputs (Ok reply) reads = AllRead content SaveMayGoOn inputs reads
+ReadsSaved content inputs (Ok reply) reads = InputsRead content SaveMayGoOn inputs reads
 ReadsSaved content inputs (Err o) reads = ReadsTo content SaveMayGoOn inputs o reads
 
 -- the same of all commands

@@ -3,21 +3,21 @@ use Rattle.std.specs.Prelude.{◌≡◌, ◌↔◌, Bool, true, ℕ, List, [], �
 use Rattle.fib_io.specs.Octets.{Adds, AddsSome}
 use Rattle.table_model.specs.Both.{LeastInBoth}
 use Rattle.cert_model.specs.Right.{IsCertificate}
-use Rattle.printed_model.specs.Used.{Used, printed_in}
+use Rattle.printed_text.specs.Used.{Used, printed_in}
 use Rattle.table_model.specs.Entries.{AlikeInBoth}
 use Rattle.route_model.specs.Events.{Event}
-use Rattle.texts_model.specs.Texts.{ComesTo, EveryTwo, least_difference}
-use Rattle.saved_model.specs.Saved.{saved}
+use Rattle.fib_same.specs.Texts.{ComparesTo, EveryTwo, least_difference}
+use Rattle.mrt_write.specs.Saved.{saved}
 use Rattle.fib_same.specs.Due.{Compared, answer_of}
 use Rattle.mrt_write.specs.Reads.{after_events}
 use Rattle.table_model.specs.declared.family.Family.{Family}
 use Rattle.table_model.specs.declared.family.Family.TheVariants.{V4, V6}
 use Rattle.table_model.specs.Entries.{in_order}
 use Rattle.table_model.specs.Changes.{Change}
-use Rattle.moves_cert.specs.Shortest.{AreProvedShortest}
-use Rattle.steady_model.specs.Steady.{AnswerSteadily}
-use Rattle.router_model.specs.Both.{AreShortestInBoth, family_changes, family_table, proving_rows, told_in}
-use Rattle.router_model.specs.Claims.{IsProved, claim_verdict}
+use Rattle.moves_model.specs.Shortest.{AreProvedShortest}
+use Rattle.kept_model.specs.Steady.{AnswerSteadily}
+use Rattle.moves_model.specs.Both.{AreShortestInBoth, family_changes, family_table, proving_rows, told_in}
+use Rattle.moves_model.specs.Claims.{IsProved, claim_verdict}
 use Rattle.router_moves.specs.Due.{moves_for}
 use Rattle.router_moves.specs.Due as router
 use Rattle.router_moves.specs.Checked as claims
@@ -107,13 +107,13 @@ IfCompared (Err stop) P = Unit {0}
 
 -- The answer is what comparing the tables comes to: none differs from the first, or the least address at which one does and the first that does there. Where none differs, every two tables send every address to the same hop.
 pub record Compares (texts : Compared) : Type 0 where
-  pub found : ComesTo texts.first texts.others (least_difference texts.first texts.others)
+  pub found : ComparesTo texts.first texts.others (least_difference texts.first texts.others)
   pub alike : answer_of texts ≡ None → EveryTwo AlikeInBoth (texts.first ∷ texts.others)
 
 -- ---- what a router must change
 
 -- this holds of a router's table and routes, and of whether changes are told in steady order, where it is due what the router must change
-abbrev pub IfMoved : Result Output Stop → (Bool → router.Asked → Type 0) → Type 0
+abbrev pub IfMoved : Result Output Stop → (Bool → router.RouterTables → Type 0) → Type 0
 IfMoved (Ok (Moved steady t)) P = P steady t
 IfMoved (Ok (Ran p)) P = Unit {0}
 IfMoved (Ok (Checked used)) P = Unit {0}
@@ -125,17 +125,17 @@ IfMoved (Ok (Claimed c)) P = Unit {0}
 IfMoved (Err stop) P = Unit {0}
 
 -- a family's changes, as they are told
-abbrev pub told_changes : Bool → Family → router.Asked → List Change
-told_changes steady f t = told_in steady (family_changes f t.routes t.table)
+abbrev pub told_family_changes : Bool → Family → router.RouterTables → List Change
+told_family_changes steady f t = told_in steady (family_changes f t.routes t.table)
 
 -- The changes are possible one after another, and make the router's table one that sends every address where the routes send it; no table that does differs from the router's at fewer prefixes, whatever its prefixes and hops. In each family the rows prove it, to whoever trusts the rules of rows alone.
-pub record Reroutes (steady : Bool) (t : router.Asked) : Type 0 where
+pub record Reroutes (steady : Bool) (t : router.RouterTables) : Type 0 where
   pub shortest : AreShortestInBoth (in_order t.routes) (in_order t.table) (moves_for steady t).changes
-  pub v4 : AreProvedShortest V4 (family_table V4 t.routes) (family_table V4 t.table) (told_changes steady V4 t) (proving_rows V4 t.routes t.table)
-  pub v6 : AreProvedShortest V6 (family_table V6 t.routes) (family_table V6 t.table) (told_changes steady V6 t) (proving_rows V6 t.routes t.table)
+  pub v4 : AreProvedShortest V4 (family_table V4 t.routes) (family_table V4 t.table) (told_family_changes steady V4 t) (proving_rows V4 t.routes t.table)
+  pub v6 : AreProvedShortest V6 (family_table V6 t.routes) (family_table V6 t.table) (told_family_changes steady V6 t) (proving_rows V6 t.routes t.table)
 
 -- Where the changes are told in steady order: while the router makes them one by one, it sends each address where its table sends it or where the routes do, and never back.
-abbrev pub ReroutesSteadily : Bool → router.Asked → Type 0
+abbrev pub ReroutesSteadily : Bool → router.RouterTables → Type 0
 ReroutesSteadily steady t = steady ≡ true → AnswerSteadily (moves_for steady t).changes (in_order t.table) (in_order t.table) (in_order t.routes)
 
 -- ---- what a router was told to change

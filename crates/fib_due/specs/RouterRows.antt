@@ -1,8 +1,8 @@
 -- The rows that say what a router must change.
 use Rattle.std.specs.Prelude.{ℕ, List, ◌∷◌, ◌++◌, length, map}
 use Rattle.kept_model.specs.Feed.{at_event}
-use Rattle.printed_model.specs.Rows.{PrintedRow, moves_row, text_of}
-use Rattle.printed_model.specs.Numbered.{of_cert}
+use Rattle.printed_text.specs.Rows.{PrintedRow, moves_row, text_of}
+use Rattle.printed_text.specs.Numbered.{of_cert}
 use Rattle.fib_report.specs.Rows.{of_change}
 use Rattle.router_moves.specs.Due.{ShortestMoves}
 

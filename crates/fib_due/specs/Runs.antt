@@ -10,7 +10,7 @@ use Rattle.table_model.specs.Changes.{Change, Add, Replace, Remove, sum_of}
 use Rattle.table_model.specs.Both.{LeastInBoth, AggregateInBoth}
 use Rattle.cert_model.specs.Right.{IsCertificate}
 use Rattle.cert_model.specs.Rows.{CertRow, leaf_row, join_row, bound_row}
-use Rattle.printed_model.specs.Numbered.{HaveHops}
+use Rattle.printed_text.specs.Numbered.{HaveHops}
 use Rattle.kept_model.specs.Feed.{changes_in}
 use Rattle.poptrie_build.specs.Tries.{visits_of}
 use Rattle.fib_report.specs.Views.{Answer, Told}
@@ -59,28 +59,28 @@ pub record IsInOrder (told : Told) : Type 0 where
 -- ---- what is printed has its addresses
 
 -- the number is 0, or the place of one of the hops, counted from 1
-abbrev pub HasHop : List Address → ℕ → Type 0
-HasHop hops n = n ≤ length hops
+abbrev pub NumbersHop : List Address → ℕ → Type 0
+NumbersHop hops n = n ≤ length hops
 
 abbrev pub ChangeHasHop : List Address → Change → Type 0
-ChangeHasHop hops (Add p n) = HasHop hops n
-ChangeHasHop hops (Replace p n) = HasHop hops n
+ChangeHasHop hops (Add p n) = NumbersHop hops n
+ChangeHasHop hops (Replace p n) = NumbersHop hops n
 ChangeHasHop hops (Remove p) = Unit {0}
 
 abbrev pub RowHasHop : List Address → CertRow → Type 0
-RowHasHop hops (leaf_row p n) = HasHop hops n
+RowHasHop hops (leaf_row p n) = NumbersHop hops n
 RowHasHop hops (join_row p k) = Unit {0}
 RowHasHop hops (bound_row f n) = Unit {0}
 
 abbrev pub EntryHasHop : List Address → Prefix × ℕ → Type 0
-EntryHasHop hops e = HasHop hops e.1
+EntryHasHop hops e = NumbersHop hops e.1
 
 -- No two hops are one, so different numbers have different addresses. Each route has a hop, and so has its row; every other number that is told is 0 or has a hop.
 pub record HasHops (p : Printed) : Type 0 where
   pub distinct : IsDistinct same_address p.hops
   pub routes : HaveHops p.hops p.told.routes
   pub changes : AllByRecursion (λ (c : ℕ × Change). ChangeHasHop p.hops c.1) p.told.changes
-  pub answers : AllByRecursion (λ (a : Answer). HasHop p.hops a.hop) p.told.answers
+  pub answers : AllByRecursion (λ (a : Answer). NumbersHop p.hops a.hop) p.told.answers
   pub table : AllByRecursion (EntryHasHop p.hops) p.told.table
   pub least : AllByRecursion (EntryHasHop p.hops) p.told.least
   pub cert : AllByRecursion (RowHasHop p.hops) p.told.cert

@@ -2,8 +2,8 @@
 use Rattle.std.specs.Prelude.{List, ℕ, Option, Result, Ok}
 use Rattle.wire_model.specs.Rules.{rule_number}
 use Rattle.route_model.specs.Events.{Event}
-use Rattle.whole_input.specs.declared.whole.WholeError.{WholeError}
-use Rattle.whole_input.specs.declared.whole.WholeError.TheVariants as whole
+use Rattle.mrt_read.specs.declared.whole.WholeError.{WholeError}
+use Rattle.mrt_read.specs.declared.whole.WholeError.TheVariants as whole
 use Rattle.fib_due.specs.declared.outcome.Outcome.{Outcome}
 use Rattle.fib_due.specs.declared.outcome.Outcome.TheVariants.{Malformed, NoMemory, ReadFault, TooLarge}
 use Rattle.fib_due.specs.declared.outcome.MrtInput.{MrtInput}

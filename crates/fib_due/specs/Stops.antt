@@ -1,14 +1,14 @@
 -- Where a run stops, and what a call gives of it.
 use Rattle.std.specs.Prelude.{◌≡◌, ℕ, List, Option, Some, None, Result, Ok, Err, Bool, true, false, not, ◌&&◌, if◌then◌else◌}
 use Rattle.wire_model.specs.Rules.{rule_number}
-use Rattle.reading_model.specs.Input.{Progress, Stopped, input}
+use Rattle.wire_model.specs.Input.{Progress, Stopped, input}
 use Rattle.fib_io.specs.Pieces.{octets_read}
-use Rattle.whole_input.specs.Cuts.{is_cut, is_small}
-use Rattle.printed_model.specs.Texts.{BadLine as BadRow}
+use Rattle.mrt_read.specs.Cuts.{is_cut, is_small}
+use Rattle.printed_text.specs.Texts.{BadLine as BadRow}
 use Rattle.route_tries.specs.Sizes.{Shortage}
-use Rattle.printed_model.specs.Rows.{Vrp}
-use Rattle.printed_model.specs.Used.{Used}
-use Rattle.step_model.specs.Script.{Step}
+use Rattle.printed_text.specs.Rows.{Vrp}
+use Rattle.printed_text.specs.Used.{Used}
+use Rattle.step_script.specs.Script.{Step}
 use Rattle.fib_due.specs.declared.outcome.Outcome.{Outcome}
 use Rattle.table_model.specs.Address.{Prefix}
 use Rattle.fib_addr.specs.Views.{prefix_as}
@@ -51,9 +51,9 @@ rowed (Ok used) = Ok used
 rowed (Err bad) = Err (Refused (BadLine Printed bad.line bad.why))
 
 -- a list of VRPs, or its first line that is neither empty nor a VRP
-abbrev pub listed : Result (List Vrp) BadRow → Result (List Vrp) Stop
-listed (Ok vrps) = Ok vrps
-listed (Err bad) = Err (Refused (BadLine Vrps bad.line bad.why))
+abbrev pub listed_vrps : Result (List Vrp) BadRow → Result (List Vrp) Stop
+listed_vrps (Ok vrps) = Ok vrps
+listed_vrps (Err bad) = Err (Refused (BadLine Vrps bad.line bad.why))
 
 -- the steps of a script, or the first of its lines that has none
 abbrev pub scripted : Result (List Step) BadRow → Result (List Step) Stop

@@ -1,12 +1,12 @@
 -- What holds where an input doesn't tell what it holds.
 use Rattle.std.specs.Prelude.{Bool, ℕ, List, Option, Some, None, Result, Ok, Err, ◌⊎◌}
 use Rattle.table_model.specs.Address.{Prefix}
-use Rattle.printed_model.specs.Rows.{Vrp}
+use Rattle.printed_text.specs.Rows.{Vrp}
 use Rattle.route_model.specs.Events.{Event}
 use Rattle.fib_same.specs.Due.{Compared}
 use Rattle.std.specs.declared.vec.Vec.{Vec}
 use Rattle.table_model.specs.Address.{Address}
-use Rattle.printed_model.specs.Used.{Used}
+use Rattle.printed_text.specs.Used.{Used}
 use Rattle.fib_words.specs.Commands.{Asked, Named, NamedSteps, Run, Check, Make, Steps, Same, Save, Moves, CheckMoves}
 use Rattle.fib_due.specs.declared.reply.Reply as code_reply
 use Rattle.fib_due.specs.declared.outcome.Which.TheVariants.{Asks, Dump, Printed, Script, Text, Updates, Vrps}
@@ -20,8 +20,8 @@ use Rattle.fib_due.specs.Owned.{StopsAt, StoppedAt}
 use Rattle.fib_due.specs.Views.{reply_as}
 use Rattle.fib_due.specs.Stepped.{EndsRun, GivesReply, GivesRun, IfStepping}
 use Rattle.octet_fields.specs.Field.{◌>>=◌}
-use Rattle.step_model.specs.Script.{Step}
-use Rattle.step_world.specs.Stepping.{Stepping}
+use Rattle.step_script.specs.Script.{Step}
+use Rattle.step_run.specs.Stepping.{Stepping}
 
 -- the outcome is the due one, and out has what is due
 abbrev pub FitsUntold : Result Output Stop → Option (List ℕ) → Option (List ℕ) → Outcome → Type 0
@@ -42,7 +42,7 @@ FitsSome content (Some (Run named)) old new outcome = (StopsAt Asks outcome ⊎ 
 FitsSome content (Some (Check name)) old new outcome = StopsAt Printed outcome ⊎ ((used : Used) × FitsUntold (Ok (Checked used)) old new outcome)
 FitsSome content (Some (Make routes seed)) old new outcome = FitsUntold (made (made_at routes seed)) old new outcome
 FitsSome content (Some (Same named)) old new outcome = ((n : ℕ) × StopsAt (Text n) outcome) ⊎ (((texts : Compared) × FitsUntold (Ok (Alike texts)) old new outcome) ⊎ ((p : Prefix) × FitsUntold (Ok (Repeats p)) old new outcome))
-FitsSome content (Some (Moves named)) old new outcome = ((n : ℕ) × StopsAt (Text n) outcome) ⊎ (((t : router.Asked) × FitsUntold (Ok (Moved named.steady t)) old new outcome) ⊎ ((p : Prefix) × FitsUntold (Ok (Repeats p)) old new outcome))
+FitsSome content (Some (Moves named)) old new outcome = ((n : ℕ) × StopsAt (Text n) outcome) ⊎ (((t : router.RouterTables) × FitsUntold (Ok (Moved named.steady t)) old new outcome) ⊎ ((p : Prefix) × FitsUntold (Ok (Repeats p)) old new outcome))
 FitsSome content (Some (CheckMoves named)) old new outcome = ((n : ℕ) × StopsAt (Text n) outcome) ⊎ (((c : claims.Claimed) × FitsUntold (Ok (Claimed c)) old new outcome) ⊎ ((p : Prefix) × FitsUntold (Ok (Repeats p)) old new outcome))
 FitsSome content (Some (Save named)) old new outcome = (StopsAt Dump outcome ⊎ StopsAt Updates outcome) ⊎ ((said : List Event) × FitsUntold (saved_of said) old new outcome)
 FitsSome content (Some (Steps named)) old new outcome = StopsAt Script outcome ⊎ ((script : List Step) × FitsStepping (with_world script (world_at content named)) old new outcome)
@@ -71,7 +71,7 @@ GivesStepping d result = GivesDue reply_as result (with_reply (stepped d)) × If
 
 -- the same of the reply to a router's table and routes
 abbrev pub MovedOfSome : Bool → Result code_reply.Reply Outcome → Type 0
-MovedOfSome steady result = ((n : ℕ) × StoppedAt (Text n) result) ⊎ (((t : router.Asked) × GivesDue reply_as result (with_reply (Ok (Moved steady t)))) ⊎ ((p : Prefix) × GivesDue reply_as result (with_reply (Ok (Repeats p)))))
+MovedOfSome steady result = ((n : ℕ) × StoppedAt (Text n) result) ⊎ (((t : router.RouterTables) × GivesDue reply_as result (with_reply (Ok (Moved steady t)))) ⊎ ((p : Prefix) × GivesDue reply_as result (with_reply (Ok (Repeats p)))))
 
 -- the same of the reply to what a router was told to change
 abbrev pub ClaimedOfSome : Result code_reply.Reply Outcome → Type 0

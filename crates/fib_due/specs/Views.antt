@@ -2,7 +2,7 @@
 use Rattle.std.specs.Prelude.{option_map}
 use Rattle.cert_check.specs.Views.{no_as}
 use Rattle.fib_same.specs.Views.{difference_as}
-use Rattle.router_moves.specs.Judged.{wrong_as as wrong_moves_as}
+use Rattle.router_moves.specs.Judged.{wrong_moves_as}
 use Rattle.fib_due.specs.declared.reply.Reply as code_reply
 use Rattle.fib_due.specs.declared.reply.Wrong as code_wrong
 use Rattle.fib_due.specs.declared.reply.Wrong.TheVariants as wrong

@@ -104,7 +104,7 @@ pub enum Outcome {
         input: Which,
         /// The line's number, from 1.
         line: u64,
-        /// What is wrong with it. Of asks 1: it is no address. Of a list of VRPs, of printed texts and of a script `cost_cert::why` names
+        /// What is wrong with it. Of asks 1: it is no address. Of a list of VRPs, of printed texts and of a script `printed_text::why` names
         /// it, and of a list of VRPs `fib_rov::BAD_MAXLEN` too.
         why: u8,
     },

@@ -12,8 +12,8 @@ ghost use Rattle.fib_due.specs.Stepping.{refusal_by};
 
 use crate::outcome::{MrtInput, Outcome, Which};
 use fib_io::{Inputs, ReadError, read_whole};
+use mrt_read::WholeError;
 use std::alloc::Global;
-use whole_input::WholeError;
 
 /// The octets of an input.
 #[tactic(auto, using(crate::proofs::Passes::input_begun, crate::proofs::Passes::input_fails, crate::proofs::Passes::input_large, crate::proofs::Passes::input_read), unfolding(crate::specs::Due::input_at, crate::specs::Stops::sized))]

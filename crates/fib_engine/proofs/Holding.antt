@@ -16,7 +16,7 @@ use Rattle.table_model.specs.Least.{aggregate}
 use Rattle.table_model.specs.Both.{aggregate_in, aggregate_in_both}
 use Rattle.route_model.proofs.Keyed.{same_entries, all_filter, sorted_filter, lookup-filter, lookup-put, lookup-cut, all_put, all_cut, sorted_put, sorted_cut}
 use Rattle.route_model.proofs.Places.{prefix_key}
-use Rattle.kept_model.specs.Between.{between, hop_at}
+use Rattle.kept_model.specs.Between.{between, entry_hop_at}
 use Rattle.kept_model.specs.Patched.{with_route, patch_of, after_snapshot}
 use Rattle.kept_model.proofs.Families.{AllOf, between_both, hop_high, hop_low, placed_both, patched_low, patched_high, patched_of}
 use Rattle.kept_model.specs.Kept.{snapshot_if}
@@ -46,8 +46,8 @@ kept_if true (Some h) = refl
 kept_if false None = refl
 kept_if false (Some h) = refl
 
-hop_only : (f : Family) (q : Prefix) (E : Entries) → InPlace E → hop_at q (only f E) ≡ cond (same_family f q.family) (hop_at q E) None
-hop_only f q E e = lookup-filter prefix_key (λ d. same_family f d.0.family) q E e.1 ∙ kept_if (same_family f q.family) (hop_at q E)
+hop_only : (f : Family) (q : Prefix) (E : Entries) → InPlace E → entry_hop_at q (only f E) ≡ cond (same_family f q.family) (entry_hop_at q E) None
+hop_only f q E e = lookup-filter prefix_key (λ d. same_family f d.0.family) q E e.1 ∙ kept_if (same_family f q.family) (entry_hop_at q E)
 
 -- all of them are of the family
 only_of : (f : Family) (E : Entries) → AllOf f (keys_of (only f E))
@@ -73,9 +73,9 @@ both_again E e = same_entries prefix_key (A ++ B) E all.1 e.1 all.0 e.0 (λ q. f
     all : InPlace (A ++ B)
     all = placed_both A B (only_placed V4 E e) (only_placed V6 E e) (only_of V4 E) (only_of V6 E)
 
-    found : (q : Prefix) (g : Family) → q.family ≡ g → hop_at q (A ++ B) ≡ hop_at q E
-    found q V4 s = hop_low q A B s (only_of V6 E) ∙ (hop_only V4 q E e ∙ ap (λ (g : Family). cond (same_family V4 g) (hop_at q E) None) s)
-    found q V6 s = hop_high q A B s (only_of V4 E) ∙ (hop_only V6 q E e ∙ ap (λ (g : Family). cond (same_family V6 g) (hop_at q E) None) s)
+    found : (q : Prefix) (g : Family) → q.family ≡ g → entry_hop_at q (A ++ B) ≡ entry_hop_at q E
+    found q V4 s = hop_low q A B s (only_of V6 E) ∙ (hop_only V4 q E e ∙ ap (λ (g : Family). cond (same_family V4 g) (entry_hop_at q E) None) s)
+    found q V6 s = hop_high q A B s (only_of V4 E) ∙ (hop_only V6 q E e ∙ ap (λ (g : Family). cond (same_family V6 g) (entry_hop_at q E) None) s)
 
 -- ---- a route set in the routes of a family
 
@@ -84,7 +84,7 @@ abbrev pub some_of : ℕ → Option ℕ
 some_of zero = None
 some_of (suc h) = Some (suc h)
 
-routed_hop : (p q : Prefix) (h : ℕ) (R : Entries) → IsPrefix p → InPlace R → hop_at q (with_route p h R) ≡ cond (same_prefix q p) (some_of h) (hop_at q R)
+routed_hop : (p q : Prefix) (h : ℕ) (R : Entries) → IsPrefix p → InPlace R → entry_hop_at q (with_route p h R) ≡ cond (same_prefix q p) (some_of h) (entry_hop_at q R)
 routed_hop p q zero R x r = lookup-cut prefix_key q p R r.1
 routed_hop p q (suc h) R x r = lookup-put prefix_key q R p (suc h) r.0 x
 
@@ -93,7 +93,7 @@ routed_placed p zero R x r = (all_cut (same_prefix p) IsPrefix R r.0, sorted_cut
 routed_placed p (suc h) R x r = (all_put prefix_cmp IsPrefix R p (suc h) r.0 x, sorted_put prefix_key R p (suc h) r.1)
 
 -- E' is E with another entry, or none, at p
-module _ (p : Prefix) (E E' : Entries) (new : Option ℕ) (x : IsPrefix p) (e : InPlace E) (e' : InPlace E') (after : (q : Prefix) → hop_at q E' ≡ cond (same_prefix q p) new (hop_at q E)) where
+module _ (p : Prefix) (E E' : Entries) (new : Option ℕ) (x : IsPrefix p) (e : InPlace E) (e' : InPlace E') (after : (q : Prefix) → entry_hop_at q E' ≡ cond (same_prefix q p) new (entry_hop_at q E)) where
   pub turned : (f : Family) (n : ℕ) → same_family f p.family ≡ true → some_of n ≡ new → with_route p n (only f E) ≡ only f E'
   turned f n s w =
       let k = only_placed f E e in
@@ -103,7 +103,7 @@ module _ (p : Prefix) (E E' : Entries) (new : Option ℕ) (x : IsPrefix p) (e : 
       (λ q. routed_hop p q n (only f E) x k
       ∙ (ap (cond (same_prefix q p) (some_of n)) (hop_only f q E e) ∙ (pick q (same_prefix q p) refl ∙ sym (hop_only f q E' e' ∙ ap (λ o. cond (same_family f q.family) o None) (after q)))))
     where
-      pick : (q : Prefix) (b : Bool) → same_prefix q p ≡ b → cond b (some_of n) (cond (same_family f q.family) (hop_at q E) None) ≡ cond (same_family f q.family) (cond b new (hop_at q E)) None
+      pick : (q : Prefix) (b : Bool) → same_prefix q p ≡ b → cond b (some_of n) (cond (same_family f q.family) (entry_hop_at q E) None) ≡ cond (same_family f q.family) (cond b new (entry_hop_at q E)) None
       pick q true t = w ∙ sym (ap (λ c. cond c new None) (ap (λ (r : Prefix). same_family f r.family) (same_prefix_is q p t) ∙ s))
       pick q false t = refl
 
@@ -114,17 +114,17 @@ module _ (p : Prefix) (E E' : Entries) (new : Option ℕ) (x : IsPrefix p) (e : 
       same_entries prefix_key (only f E) (only f E') k.1 l.1 k.0 l.0
       (λ q. hop_only f q E e ∙ (pick q (same_prefix q p) refl ∙ sym (hop_only f q E' e' ∙ ap (λ o. cond (same_family f q.family) o None) (after q))))
     where
-      pick : (q : Prefix) (b : Bool) → same_prefix q p ≡ b → cond (same_family f q.family) (hop_at q E) None ≡ cond (same_family f q.family) (cond b new (hop_at q E)) None
+      pick : (q : Prefix) (b : Bool) → same_prefix q p ≡ b → cond (same_family f q.family) (entry_hop_at q E) None ≡ cond (same_family f q.family) (cond b new (entry_hop_at q E)) None
       pick q true t =
           let out = ap (λ (r : Prefix). same_family f r.family) (same_prefix_is q p t) ∙ s in
-          ap (λ c. cond c (hop_at q E) None) out ∙ sym (ap (λ c. cond c new None) out)
+          ap (λ c. cond c (entry_hop_at q E) None) out ∙ sym (ap (λ c. cond c new None) out)
       pick q false t = refl
 
-  pub stays_all : new ≡ hop_at p E → E ≡ E'
+  pub stays_all : new ≡ entry_hop_at p E → E ≡ E'
   stays_all n = same_entries prefix_key E E' e.1 e'.1 e.0 e'.0 (λ q. pick q (same_prefix q p) refl ∙ sym (after q))
     where
-      pick : (q : Prefix) (b : Bool) → same_prefix q p ≡ b → hop_at q E ≡ cond b new (hop_at q E)
-      pick q true t = ap (λ r. hop_at r E) (same_prefix_is q p t) ∙ sym n
+      pick : (q : Prefix) (b : Bool) → same_prefix q p ≡ b → entry_hop_at q E ≡ cond b new (entry_hop_at q E)
+      pick q true t = ap (λ r. entry_hop_at r E) (same_prefix_is q p t) ∙ sym n
       pick q false t = refl
 
 -- ---- both families' tables as one

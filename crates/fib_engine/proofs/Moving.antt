@@ -14,9 +14,9 @@ use Rattle.table_model.proofs.Both.{family_is}
 use Rattle.table_model.proofs.Laws.{fresh_law}
 use Rattle.kept_model.specs.Patched.{IsPair, after_repair}
 use Rattle.kept_model.proofs.Families.{AllOf}
-use Rattle.moves_cert.specs.Rows.{near_in}
-use Rattle.fewest_feed.specs.Moved.{after_move, with_nearest}
-use Rattle.fewest_feed.proofs.Pairs.{pair_low, pair_high}
+use Rattle.moves_model.specs.Rows.{near_in}
+use Rattle.moves_model.specs.Moved.{after_move, with_nearest}
+use Rattle.moves_model.proofs.Pairs.{pair_low, pair_high}
 use Rattle.orig_tree.specs.Views.{Labels}
 use Rattle.smalta_keep.specs.Answers.{IsAlike, IsAlikeFor}
 use Rattle.smalta_keep.specs.Plans.{repaired_table}

@@ -17,7 +17,7 @@ use Rattle.fib_prefix.specs.declared.event.Via as code_via
 use Rattle.fib_prefix.specs.declared.event.Elem as code_elem
 use Rattle.fib_prefix.specs.declared.event.Elem.TheVariants as code_variant
 use Rattle.kept_model.specs.Kept.{is_other}
-use Rattle.fib_engine.specs.Numbers.{IsNewNumber, IsOwnNumber, numbered}
+use Rattle.fib_engine.specs.Numbers.{IsNewNumber, IsOwnNumber, number_routes}
 
 -- ---- one hop too many
 
@@ -96,6 +96,6 @@ same_told before after a b t x y e = rw (x, y, e) (by_test (same_address (addr_a
 pub number_least : (hops : List Address) (a : Address) → IsNumbered hops a → 1 ≤ number_in hops a
 number_least hops a (n, e, l, m) = let is : number_in hops a ≡ n = ap (λ (o : Option ℕ). unwrap_or o 0) e in omega (arith, l, is)
 
-pub numbers_least : (hops : List Address) (routes : List (Prefix × Address)) → AllByRecursion (λ (r : Prefix × Address). IsNumbered hops r.1) routes → AllByRecursion (λ (r : Prefix × ℕ). 1 ≤ r.1) (numbered hops routes)
+pub numbers_least : (hops : List Address) (routes : List (Prefix × Address)) → AllByRecursion (λ (r : Prefix × Address). IsNumbered hops r.1) routes → AllByRecursion (λ (r : Prefix × ℕ). 1 ≤ r.1) (number_routes hops routes)
 numbers_least hops [] a = tt
 numbers_least hops (r ∷ routes) a = (number_least hops r.1 a.0, numbers_least hops routes a.1)

@@ -26,18 +26,18 @@ use Rattle.table_model.specs.Both.{aggregate_in, aggregate_in_both}
 use Rattle.table_model.specs.Sets.{answers}
 use Rattle.table_model.specs.Least.{bound}
 use Rattle.cert_model.specs.Rows.{CertRow, bound_row, certificate_of, family_rows, region_rows, whole_prefix}
-use Rattle.kept_model.specs.Between.{between, hop_at}
+use Rattle.kept_model.specs.Between.{between, entry_hop_at}
 use Rattle.kept_model.specs.Patched.{with_route, after_snapshot}
 use Rattle.kept_model.proofs.Families.{placed_both}
 use Rattle.kept_model.specs.Kept.{AreNumberedAlong, is_other, is_due, changed_at, snapshot_if, kept_at_load}
 use Rattle.kept_model.proofs.FeedSteps.{elems_more, numbered_along, numbered_later, snapshot_is}
 use Rattle.kept_model.proofs.FeedStays.{load_stays}
-use Rattle.moves_cert.specs.Shortest.{AreShortest}
-use Rattle.fewest_feed.specs.Moved.{after_move, table_by, table_from}
-use Rattle.fewest_feed.specs.Reported.{first_changes, told_of}
-use Rattle.fewest_feed.proofs.Moved.{table_alike}
-use Rattle.fewest_feed.proofs.Reported.{table_from_stays, table_step}
-use Rattle.fewest_feed.proofs.Shortest.{move_shortest}
+use Rattle.moves_model.specs.Shortest.{AreShortest}
+use Rattle.moves_model.specs.Moved.{after_move, table_by, table_from}
+use Rattle.moves_model.specs.Reported.{first_changes, told_of}
+use Rattle.moves_model.proofs.Moved.{table_alike}
+use Rattle.moves_model.proofs.Reported.{table_from_stays, table_step}
+use Rattle.moves_model.proofs.Shortest.{move_shortest}
 use Rattle.fib_addr.specs.Hops.{most_hops}
 use Rattle.fib_addr.specs.Views.{addr_as, prefix_as}
 use Rattle.fib_addr.specs.declared.addr.Addr.{Addr}
@@ -57,11 +57,11 @@ use Rattle.smalta_keep.proofs.Alike.{committed}
 use Rattle.smalta_keep.proofs.Tables.{renewed_placed, renewed_family}
 use Rattle.route_tries.specs.Sizes.{Sizes, shortage}
 use Rattle.route_tries.specs.declared.needs.FamilyNeeds.{FamilyNeeds}
-use Rattle.fib_engine.specs.Settled.{AreSettled}
+use Rattle.fib_engine.specs.FinalFib.{AreSettled}
 use Rattle.fib_engine.specs.Tables.{Both, Route, AreAlike, AreBoth, AreOfRoutes, AreTold, ArePut, KeepRoutes, KeepTables, MadeBy, both_firsts, both_routes, gathered, only, route_in, table_of as both_tables}
-use Rattle.fib_engine.specs.Held.{AreKeptNeeds, Held, IsKept, IsSound, if_loaded, routes_in}
+use Rattle.fib_engine.specs.Held.{AreKeptNeeds, EngineState, IsKept, IsSound, if_loaded, engine_routes}
 use Rattle.fib_engine.specs.Numbers.{IsNewNumber, IsRouteOf, HasNumber, number_or_none}
-use Rattle.fib_engine.specs.Stands.{IsLoading, Stands, Takes, first_of, routes_after}
+use Rattle.fib_engine.specs.Stands.{IsLoading, EngineStands, TakesElem, first_of, routes_after}
 use Rattle.fib_engine.proofs.Holding.{Fine, both_again, some_of, turned, stays_out, stays_all, both_snapshots, both_changes, both_aggregates, fine_renewed, of_only, only_placed}
 use Rattle.fib_engine.proofs.Moving.{moved_in, moved_is, fine_moved, fine_still, both_still, both_moved, both_moved_high, none_alike, fresh_alike, alike_in, alike_of, both_alike, low_alike, high_alike}
 use Rattle.fib_engine.proofs.Numbering.{number_least}
@@ -128,7 +128,7 @@ sound_load C C' H H' elem loaded b l s x c h few = record {
   v6 = subst (λ (t : Bool). IsKept V6 t (entries_of H' C') b.v6) (sym l) (kept_none V6 (entries_of H' C') b.v6 s.v6.family (s.v6.routes ∙ ap (λ t. only V6 (if_loaded t (entries_of H C))) l) (s.v6.empty l));
 }
 
-pub loading_more : (load : List Elem) (elem : Elem) (old new : Held) → IsElem elem → new.candidates ≡ after_elem old.candidates elem → new.hops ≡ hops_after old.hops (elem ∷ []) → new.table ≡ old.table → new.loaded ≡ old.loaded → new.events ≡ old.events → new.moves ≡ old.moves
+pub loading_more : (load : List Elem) (elem : Elem) (old new : EngineState) → IsElem elem → new.candidates ≡ after_elem old.candidates elem → new.hops ≡ hops_after old.hops (elem ∷ []) → new.table ≡ old.table → new.loaded ≡ old.loaded → new.events ≡ old.events → new.moves ≡ old.moves
     → IsLoading load old → IsLoading (load ++ elem ∷ []) new
 loading_more load elem old new x c h t l e m s = record {
   candidates = held_push load elem old.candidates new.candidates s.candidates c;
@@ -194,7 +194,7 @@ module _ (C : Candidates) (H : List Address) (b t n : Both) (s : IsSound C H fal
       ap (λ (L : Entries). L ++ n.v6.entries) low_end
       ∙ (ap (λ (L : Entries). aggregate_in V4 (only V4 E) [] ++ L) high_end ∙ (both_aggregates E [] [] tt tt ∙ sym (snapshot_is E [])))
 
-pub stands_end : (load : List Elem) (old new : Held) → new.candidates ≡ old.candidates → new.hops ≡ old.hops → new.table ≡ kept_at_load old.hops old.candidates → new.loaded ≡ true → new.events ≡ old.events → shortage new.sizes (routes_in new) ≡ None → IsLoading load old → Stands load [] new
+pub stands_end : (load : List Elem) (old new : EngineState) → new.candidates ≡ old.candidates → new.hops ≡ old.hops → new.table ≡ kept_at_load old.hops old.candidates → new.loaded ≡ true → new.events ≡ old.events → shortage new.sizes (engine_routes new) ≡ None → IsLoading load old → EngineStands load [] new
 unfolding table_from
 stands_end load old new c h t l e f s = record {
   candidates = c ∙ s.candidates;
@@ -277,8 +277,8 @@ module _ (C : Candidates) (H : List Address) (elem : Elem) (elems : List Elem) (
   abbrev new : Option ℕ
   new = new_entry H' C elem
 
-  after : (q : Prefix) → hop_at q E' ≡ cond (same_prefix q p) new (hop_at q E)
-  after q = entry_after H' C elem q ac x ∙ ap (λ (L : Entries). cond (same_prefix q p) new (hop_at q L)) same_numbers
+  after : (q : Prefix) → entry_hop_at q E' ≡ cond (same_prefix q p) new (entry_hop_at q E)
+  after q = entry_after H' C elem q ac x ∙ ap (λ (L : Entries). cond (same_prefix q p) new (entry_hop_at q L)) same_numbers
 
   pub chosen_has : (o : Option Address) → chosen_for C' p ≡ o → HasNumber H' o
   chosen_has None e = tt
@@ -293,7 +293,7 @@ module _ (C : Candidates) (H : List Address) (elem : Elem) (elems : List Elem) (
     routes_turn : (route : Route) → IsRouteOf H' choice route → (f : Family) → with_planned (route_in f route) (only f E) ≡ only f E'
     routes_turn None r f =
         let same : chosen_for C p ≡ chosen_for C' p = not_other (chosen_for C p) (chosen_for C' p) (other_is ∙ r) in
-        ap (only f) (stays_all p E E' new (at_prefix elem x) old_placed new_placed after (ap (option_map (number_in H')) (sym same) ∙ (sym (routed_at H' C p) ∙ ap (hop_at p) same_numbers)))
+        ap (only f) (stays_all p E E' new (at_prefix elem x) old_placed new_placed after (ap (option_map (number_in H')) (sym same) ∙ (sym (routed_at H' C p) ∙ ap (entry_hop_at p) same_numbers)))
     routes_turn (Some rr) r f = by_test (same_family rr.0.family f) refl
       where
         there : prefix_as rr.0 ≡ p
@@ -448,7 +448,7 @@ taken fewest every event C H elem b n m choice route low_plan high_plan due s x 
 
 -- ---- by whole lists
 
-pub stands_more : (load elems : List Elem) (elem : Elem) (old new : Held) → IsElem elem → Takes elem old new → shortage new.sizes (routes_in new) ≡ None → Stands load elems old → Stands load (elems ++ elem ∷ []) new
+pub stands_more : (load elems : List Elem) (elem : Elem) (old new : EngineState) → IsElem elem → TakesElem elem old new → shortage new.sizes (engine_routes new) ≡ None → EngineStands load elems old → EngineStands load (elems ++ elem ∷ []) new
 stands_more load elems elem old new x t f s =
     let C = after_elems [] load in
     let hops : new.hops ≡ hops_after [] (load ++ (elems ++ elem ∷ [])) =
@@ -482,7 +482,7 @@ stands_more load elems elem old new x t f s =
     }
 
 -- with the fewest changes asked for, those of the first step are shortest
-pub shortest_first : (elem : Elem) (old : Held) → InPlace old.table → old.fewest ≡ true → (p : Prefix) → changed_at old.candidates elem ≡ Some p → AreShortest p.family (routes_after elem old) old.table (first_of elem old)
+pub shortest_first : (elem : Elem) (old : EngineState) → InPlace old.table → old.fewest ≡ true → (p : Prefix) → changed_at old.candidates elem ≡ Some p → AreShortest p.family (routes_after elem old) old.table (first_of elem old)
 shortest_first elem old t f p e =
     subst (λ (b : Bool). AreShortest p.family (routes_after elem old) old.table (first_changes b (hops_after old.hops (elem ∷ [])) old.candidates old.table elem)) (sym f)
     (move_shortest (routes_after elem old) (changed_at old.candidates elem) old.table p t e)
@@ -551,8 +551,8 @@ module _ (C : Candidates) (H : List Address) (loaded : Bool) (b : Both) (is : lo
       let E = entries_of H C in
       ap (λ (R : Entries). R ++ b.v6.routes) s.v4.routes ∙ (ap (λ (R : Entries). only V4 E ++ R) s.v6.routes ∙ both_again E (routes_placed C H true b s))
 
-  pub settled : (z : Sizes) (n : FamilyNeeds) → AreKeptNeeds z (if_loaded loaded (entries_of H C)) n → AreSettled z b n
-  settled z n k =
+  pub final_fib : (z : Sizes) (n : FamilyNeeds) → AreKeptNeeds z (if_loaded loaded (entries_of H C)) n → AreSettled z b n
+  final_fib z n k =
       let s = settled_sound in
       let E = entries_of H C in
       record {

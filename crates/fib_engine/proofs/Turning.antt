@@ -24,12 +24,12 @@ use Rattle.fib_prefix.specs.Views.{elem_as, event_as}
 use Rattle.fib_prefix.specs.declared.event.Elem as code_elem
 use Rattle.fib_prefix.specs.declared.event.Event as code_event
 use Rattle.fib_prefix.specs.declared.event.Event.TheVariants as event_variant
-use Rattle.fib_engine.specs.Held.{Held}
+use Rattle.fib_engine.specs.Held.{EngineState}
 use Rattle.fib_engine.specs.Numbers.{HasNumber, IsRouteOf, number_or_none}
-use Rattle.fib_engine.specs.Stands.{Stands}
+use Rattle.fib_engine.specs.Stands.{EngineStands}
 use Rattle.fib_engine.proofs.Taking.{is_address}
 use Rattle.fib_engine.specs.Tables.{Route}
-use Rattle.fib_engine.specs.Turns.{AreTurnsOf, TakesTurn, Turning, taken_of, front_of, turn_as, turn_of, turns_of}
+use Rattle.fib_engine.specs.Turns.{AreTurnsOf, TakesTurn, Turning, taken_of, front_of, turn_as, elem_turn, turns_of}
 
 -- ---- chosen hops have numbers, which stay
 
@@ -48,7 +48,7 @@ same_number : (hops : List Address) (more : List Elem) (o : Option Address) → 
 same_number hops more None x = refl
 same_number hops more (Some a) x = ap (λ o. unwrap_or o 0) (stays hops more a x.0 x.1 ∙ sym x.1)
 
-turn_stays : (hops : List Address) (more : List Elem) (held : Candidates) (elem : Elem) → AreNumbered hops (after_elem held elem) → turn_of (hops_after hops more) held elem ≡ turn_of hops held elem
+turn_stays : (hops : List Address) (more : List Elem) (held : Candidates) (elem : Elem) → AreNumbered hops (after_elem held elem) → elem_turn (hops_after hops more) held elem ≡ elem_turn hops held elem
 turn_stays hops more held elem a = by_test (is_other (chosen_for held p) (chosen_for (after_elem held elem) p))
   where
     p : Prefix
@@ -66,12 +66,12 @@ pub turns_stay : (hops : List Address) (more : List Elem) (held : Candidates) (e
 unfolding turns_of
 turns_stay hops more held [] a = refl
 turns_stay hops more held (elem ∷ elems) a =
-    ap (λ t. t ∷ turns_of (hops_after hops more) (after_elem held elem) elems) (turn_stays hops more held elem a.0) ∙ ap (λ ts. turn_of hops held elem ∷ ts) (turns_stay hops more (after_elem held elem) elems a.1)
+    ap (λ t. t ∷ turns_of (hops_after hops more) (after_elem held elem) elems) (turn_stays hops more held elem a.0) ∙ ap (λ ts. elem_turn hops held elem ∷ ts) (turns_stay hops more (after_elem held elem) elems a.1)
 
-pub turns_push : (hops : List Address) (held : Candidates) (elems : List Elem) (elem : Elem) → turns_of hops held (elems ++ elem ∷ []) ≡ turns_of hops held elems ++ turn_of hops (after_elems held elems) elem ∷ []
+pub turns_push : (hops : List Address) (held : Candidates) (elems : List Elem) (elem : Elem) → turns_of hops held (elems ++ elem ∷ []) ≡ turns_of hops held elems ++ elem_turn hops (after_elems held elems) elem ∷ []
 unfolding turns_of
 turns_push hops held [] elem = refl
-turns_push hops held (x ∷ elems) elem = ap (λ ts. turn_of hops held x ∷ ts) (turns_push hops (after_elem held x) elems elem)
+turns_push hops held (x ∷ elems) elem = ap (λ ts. elem_turn hops held x ∷ ts) (turns_push hops (after_elem held x) elems elem)
 
 -- ---- the route that the code has
 
@@ -82,7 +82,7 @@ module _ (C : Candidates) (elem : Elem) (choice : Choice) (ch : IsChoice C elem 
   other : is_other (chosen_for C p) (chosen_for (after_elem C elem) p) ≡ is_other (option_map addr_as choice.before) (option_map addr_as choice.after)
   other = ap (λ o. is_other o (chosen_for (after_elem C elem) p)) (sym ch.before) ∙ ap (is_other (option_map addr_as choice.before)) (sym ch.after)
 
-  pub route_turn : (hops : List Address) (route : Route) → IsRouteOf hops choice route → turn_as route ≡ turn_of hops C elem
+  pub route_turn : (hops : List Address) (route : Route) → IsRouteOf hops choice route → turn_as route ≡ elem_turn hops C elem
   route_turn hops None r = ap (λ b. option_map (λ q. (q, number_or_none hops (chosen_for (after_elem C elem) q))) (if b then Some p else None)) (sym (other ∙ r))
   route_turn hops (Some rr) r =
       ap (λ (q : Prefix). Some (q, rr.1.0)) (ap prefix_as r.1 ∙ ch.prefix)
@@ -217,8 +217,8 @@ module _ (load elems : List Elem) (elem : Elem) (old : Turning) (x : IsElem elem
         let same : elems ++ elem ∷ [] ≡ taken_of load (elems ++ elem ∷ []) = ap (λ o. front_of o (elems ++ elem ∷ [])) (sym at) in
         let turns : new.turns ≡ turns_of new.hops (after_elems [] load) (elems ++ elem ∷ []) =
         t.turns has
-        ∙ (ap (λ ts. ts ++ turn_of new.hops old.candidates elem ∷ []) earlier
-        ∙ (ap (λ (C : Candidates). turns_of new.hops (after_elems [] load) elems ++ turn_of new.hops C elem ∷ []) held ∙ sym (turns_push new.hops (after_elems [] load) elems elem)))
+        ∙ (ap (λ ts. ts ++ elem_turn new.hops old.candidates elem ∷ []) earlier
+        ∙ (ap (λ (C : Candidates). turns_of new.hops (after_elems [] load) elems ++ elem_turn new.hops C elem ∷ []) held ∙ sym (turns_push new.hops (after_elems [] load) elems elem)))
         in
         record {
           proper = proper_next;
@@ -231,7 +231,7 @@ module _ (load elems : List Elem) (elem : Elem) (old : Turning) (x : IsElem elem
 
 -- ---- none since the load
 
-pub no_turns : (load : List Elem) (e : Held) (t : Turning) → Stands load [] e → t ≡ record { candidates = e.candidates; hops = e.hops; turns = []; is_full = false } → length e.hops ≤ most_hops → AreTurnsOf load [] t
+pub no_turns : (load : List Elem) (e : EngineState) (t : Turning) → EngineStands load [] e → t ≡ record { candidates = e.candidates; hops = e.hops; turns = []; is_full = false } → length e.hops ≤ most_hops → AreTurnsOf load [] t
 unfolding full_at turns_of
 no_turns load e t s is few = rw is (record {
   proper = s.proper;

@@ -19,7 +19,7 @@ use Rattle.fib_engine.specs.Tables.{Both, only}
 -- How often a snapshot comes, whether an event is to make the fewest changes, how large tries are, the candidates of all peers, the hops with
 -- numbers, the kept table of both families, whether the load ended, how many elementary events were taken since, and how many changes the first
 -- step of the last of these made, if it changed a chosen hop.
-pub record Held : Type 0 where
+pub record EngineState : Type 0 where
   pub every : ℕ
   pub fewest : Bool
   pub sizes : Sizes
@@ -31,15 +31,15 @@ pub record Held : Type 0 where
   pub moves : Option ℕ
 
 -- the routes: each prefix that has a candidate, with the number of the hop of its chosen one
-abbrev pub routes_in : Held → Entries
-routes_in e = entries_of e.hops e.candidates
+abbrev pub engine_routes : EngineState → Entries
+engine_routes e = entries_of e.hops e.candidates
 
 -- the routes of the tables and of tries: none before the load ended
 abbrev pub if_loaded : Bool → Entries → Entries
 if_loaded loaded E = cond loaded E []
 
-abbrev pub routes_told : Held → Entries
-routes_told e = if_loaded e.loaded (routes_in e)
+abbrev pub routes_told : EngineState → Entries
+routes_told e = if_loaded e.loaded (engine_routes e)
 
 -- A family's kept table is of the family and in order, has the routes of the family, and sends every address where they send it; before the
 -- load ended it is empty.

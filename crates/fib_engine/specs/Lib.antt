@@ -2,5 +2,5 @@ pub mod Tables
 pub mod Held
 pub mod Stands
 pub mod Numbers
-pub mod Settled
+pub mod FinalFib
 pub mod Turns

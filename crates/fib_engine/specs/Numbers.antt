@@ -37,5 +37,5 @@ IsRouteOf hops choice None = is_other (option_map addr_as choice.before) (option
 IsRouteOf hops choice (Some r) = (is_other (option_map addr_as choice.before) (option_map addr_as choice.after) ≡ true) × (r.0 ≡ choice.prefix) × (r.1.0 ≡ number_or_none hops (option_map addr_as choice.after))
 
 -- routes with the numbers of their hops
-abbrev pub numbered : List Address → List (Prefix × Address) → Entries
-numbered hops routes = map (λ r. (r.0, number_in hops r.1)) routes
+abbrev pub number_routes : List Address → List (Prefix × Address) → Entries
+number_routes hops routes = map (λ r. (r.0, number_in hops r.1)) routes

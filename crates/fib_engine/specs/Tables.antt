@@ -12,7 +12,7 @@ use Rattle.orig_tree.specs.Views.{Labels}
 use Rattle.smalta_keep.specs.declared.repair.Moved.{Moved}
 use Rattle.smalta_keep.specs.declared.repair.Repair.{Repair}
 use Rattle.smalta_keep.specs.Views.{moved_of, place_in, repair_as, snapshot_as, undone_by, with_planned}
-use Rattle.smalta_keep.specs.Plans.{IsPlanned, Tells}
+use Rattle.smalta_keep.specs.Plans.{IsRepairPlanned, Tells}
 use Rattle.smalta_keep.specs.Answers.{IsAlike}
 use Rattle.poptrie_build.specs.declared.counts.Needs.{Needs}
 use Rattle.route_tries.specs.Sizes.{needs_of_both}
@@ -94,8 +94,8 @@ pub record AreUndone (plan : Plan) (old new : Both) : Type 0 where
 
 -- both are planned, and nothing changed since
 pub record ArePlanned (both : Both) (plan : Plan) : Type 0 where
-  pub v4 : IsPlanned both.v4 plan.v4
-  pub v6 : IsPlanned both.v6 plan.v6
+  pub v4 : IsRepairPlanned both.v4 plan.v4
+  pub v6 : IsRepairPlanned both.v6 plan.v6
 
 -- what both plans tell, each repaired at the route's prefix or by the fewest changes
 pub record AreTold (both : Both) (fewest : Bool) (route : Route) (due : Bool) (v4 v6 : Repair) : Type 0 where

@@ -13,13 +13,13 @@ use Rattle.fib_engine.specs.Tables.{Route}
 
 -- What an elementary event does: the prefix at which it changes the chosen hop, with the number of the hop that is chosen then, 0 where none
 -- is; nothing where the chosen hop stays.
-abbrev pub turn_of : List Address → Candidates → Elem → Option (Prefix × ℕ)
-turn_of hops held elem = option_map (λ p. (p, number_or_none hops (chosen_for (after_elem held elem) p))) (changed_at held elem)
+abbrev pub elem_turn : List Address → Candidates → Elem → Option (Prefix × ℕ)
+elem_turn hops held elem = option_map (λ p. (p, number_or_none hops (chosen_for (after_elem held elem) p))) (changed_at held elem)
 
 -- what elementary events do, each after those before it
 unfoldable pub turns_of : List Address → Candidates → List Elem → List (Option (Prefix × ℕ))
 turns_of hops held [] = []
-turns_of hops held (elem ∷ elems) = turn_of hops held elem ∷ turns_of hops (after_elem held elem) elems
+turns_of hops held (elem ∷ elems) = elem_turn hops held elem ∷ turns_of hops (after_elem held elem) elems
 
 -- the elementary events before the one, counted from 1, that brings one hop too many; all of them where none does
 abbrev pub front_of : Option ℕ → List Elem → List Elem
@@ -58,5 +58,5 @@ pub record AreTurnsOf (load elems : List Elem) (t : Turning) : Type 0 where
 pub record TakesTurn (elem : Elem) (old new : Turning) : Type 0 where
   pub candidates : new.candidates ≡ after_elem old.candidates elem
   pub hops : new.hops ≡ hops_after old.hops (elem ∷ [])
-  pub turns : HasNumber new.hops (chosen_for new.candidates (elem_prefix elem)) → new.turns ≡ old.turns ++ turn_of new.hops old.candidates elem ∷ []
+  pub turns : HasNumber new.hops (chosen_for new.candidates (elem_prefix elem)) → new.turns ≡ old.turns ++ elem_turn new.hops old.candidates elem ∷ []
   pub is_full : new.is_full ≡ old.is_full

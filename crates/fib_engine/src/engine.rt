@@ -8,7 +8,7 @@ ghost use Rattle.route_model.specs.Events.{Elem as model_elem};
 ghost use Rattle.route_model.specs.Choice.{elems_of};
 ghost use Rattle.kept_model.specs.Feed.{hops_after, number_in};
 ghost use Rattle.kept_model.specs.Kept.{changed_at, is_due as due_at, is_other};
-ghost use Rattle.moves_cert.specs.Shortest.{AreShortest};
+ghost use Rattle.moves_model.specs.Shortest.{AreShortest};
 ghost use Rattle.fib_addr.specs.Hops.{most_hops, number_of, with_hop};
 ghost use Rattle.fib_addr.specs.Views.{addr_as, entry_as};
 ghost use Rattle.fib_prefix.specs.Views.{elem_as, event_as};
@@ -18,15 +18,15 @@ ghost use Rattle.cert_model.specs.Views.{row_as};
 ghost use Rattle.route_tries.specs.Sizes.{AreFew, needs_of, shortage, sizes_as};
 ghost use Rattle.route_tries.specs.Tries.{AreTriesOf};
 ghost use Rattle.route_tries.specs.declared.sizes.TrieFull.{TrieFull};
-ghost use Rattle.fib_engine.specs.Held.{routes_in, routes_told};
+ghost use Rattle.fib_engine.specs.Held.{engine_routes, routes_told};
 ghost use Rattle.fib_engine.specs.Numbers.{HasNumber, IsNewNumber, IsOwnNumber, IsRouteOf};
 ghost use Rattle.fib_engine.specs.Tables.{AreOfRoutes};
 ghost use Rattle.fib_engine.specs.Turns.{AreTurnsOf};
-ghost use Rattle.fib_engine.specs.Stands.{EndsLoad, IsLoading, IsShortFor, IsTooMany, Loads, Stands, Takes, changes_of, first_of, routes_after};
+ghost use Rattle.fib_engine.specs.Stands.{EndsLoad, IsLoading, IsShortFor, IsTooMany, Loads, EngineStands, TakesElem, changes_of, first_of, routes_after};
 
 use crate::error::EngineError;
+use crate::final_fib::FinalFib;
 use crate::fitting::plan_fitting;
-use crate::settled::Settled;
 use crate::tables::{EventChanges, Tables};
 use crate::turns::Turns;
 use fib_prefix::{Addr, Elem, Entry, Event, Family, Hop, HopTable, HopsFull, Prefix, Via};
@@ -48,7 +48,7 @@ pub struct Limits {
 }
 
 /// The candidates of all peers, the numbers of next hops, the kept tables of both families, and what tries of the routes need,
-/// under one event at a time. Contracts see what `Held` lists.
+/// under one event at a time. Contracts see what `EngineState` lists.
 #[derive(Drop)]
 pub struct Engine {
     alloc: Global,
@@ -67,10 +67,10 @@ pub struct Engine {
 impl Model for Engine {
     ghost use Rattle.kept_model.specs.Feed.{entries_of};
     ghost use Rattle.route_tries.specs.Sizes.{sizes_as};
-    ghost use Rattle.fib_engine.specs.Held.{Held, IsSound, AreKeptNeeds, if_loaded};
+    ghost use Rattle.fib_engine.specs.Held.{EngineState, IsSound, AreKeptNeeds, if_loaded};
     ghost use Rattle.fib_engine.specs.Tables.{table_of};
 
-    ghost Value = { Held };
+    ghost Value = { EngineState };
 
     ghost view = { λ e. record { every = e.limits.every; fewest = e.limits.fewest; sizes = sizes_as e.limits.sizes; candidates = e.candidates.candidates; hops = e.hops.list; table = table_of e.tables; loaded = e.is_loaded; events = e.events; moves = e.moves } };
 
@@ -317,7 +317,7 @@ impl Engine {
     pub fn apply(&mut self, elem: &Elem) -> Result<EventChanges, EngineError>
         requires loaded { self.old.loaded ≡ true }
         requires few { self.old.events + 1 < 2 ^ 64 }
-        ensures takes { OnOk result (Takes (elem_as elem.now) self.old self.new) }
+        ensures takes { OnOk result (TakesElem (elem_as elem.now) self.old self.new) }
         ensures changes { IfOk result (λ e. map change_as e.changes.items
             ≡ changes_of (elem_as elem.now) self.old) }
         ensures first { IfOk result (λ e. e.first
@@ -326,10 +326,10 @@ impl Engine {
             → changed_at self.old.candidates (elem_as elem.now) ≡ Some p
             → AreShortest p.family (routes_after (elem_as elem.now) self.old) self.old.table
             (first_of (elem_as elem.now) self.old)) }
-        ensures stands { OnOk result ((load elems : List model_elem) → Stands load elems self.old
-            → Stands load (elems ++ elem_as elem.now ∷ []) self.new) }
+        ensures stands { OnOk result ((load elems : List model_elem) → EngineStands load elems self.old
+            → EngineStands load (elems ++ elem_as elem.now ∷ []) self.new) }
         ensures full { IsErrOf result EngineError.HopsFull ↔ IsTooMany (elem_as elem.now) self.old }
-        ensures fits { OnOk result (shortage self.new.sizes (routes_in self.new) ≡ None) }
+        ensures fits { OnOk result (shortage self.new.sizes (engine_routes self.new) ≡ None) }
         ensures short { (t : TrieFull) → IsErrOf result (EngineError.TrieFull t)
             → IsShortFor self.old (routes_after (elem_as elem.now) self.old) t }
         ensures err { OnErr result (self.new ≡ self.old) }
@@ -374,14 +374,14 @@ impl Engine {
     ///
     /// No memory.
     pub fn routes(&self) -> Result<Vec<Entry>, AllocError>
-        ensures { IfOk result (λ v. map entry_as v.items ≡ routes_in self.now) }
+        ensures { IfOk result (λ v. map entry_as v.items ≡ engine_routes self.now) }
     {
         self.candidates.route_entries(&self.hops)
     }
 
     /// The tables of the routes, before their first snapshot.
     fn tables_of_routes(&self) -> Result<Tables, AllocError>
-        ensures { IfOk result (AreOfRoutes (routes_in self.now)) }
+        ensures { IfOk result (AreOfRoutes (engine_routes self.now)) }
     {
         let tables = Tables::load(self.alloc, &self.routes()?)?;
         Ok(tables)
@@ -399,11 +399,11 @@ impl Engine {
         ensures ends { OnOk result (EndsLoad self.old self.new) }
         ensures entries { IfOk result (λ v. map entry_as v.items ≡ self.new.table) }
         ensures stands { OnOk result ((load : List model_elem) → IsLoading load self.old
-            → Stands load [] self.new) }
-        ensures fits { OnOk result (shortage self.new.sizes (routes_in self.new) ≡ None) }
+            → EngineStands load [] self.new) }
+        ensures fits { OnOk result (shortage self.new.sizes (engine_routes self.new) ≡ None) }
         ensures hops { ¬ (IsErrOf result EngineError.HopsFull) }
         ensures short { (t : TrieFull) → IsErrOf result (EngineError.TrieFull t)
-            → IsShortFor self.old (routes_in self.old) t }
+            → IsShortFor self.old (engine_routes self.old) t }
         ensures err { OnErr result (self.new ≡ self.old) }
     {
         let tables = self.tables_of_routes()?;
@@ -469,26 +469,26 @@ impl Engine {
     }
 
     /// What is left to be told once no more events come, and the hops with their numbers: the candidates are let go.
-    pub fn settle(self) -> (Settled, HopTable)
+    pub fn settle(self) -> (FinalFib, HopTable)
         requires { self.loaded ≡ true }
         ensures sizes { result.0.sizes ≡ self.sizes }
-        ensures routes { result.0.routes ≡ routes_in self }
+        ensures routes { result.0.routes ≡ engine_routes self }
         ensures table { result.0.table ≡ self.table }
         ensures hops { result.1.list ≡ self.hops }
     {
-        let settled = Settled {
+        let final_fib = FinalFib {
             alloc: self.alloc,
             tables: self.tables,
             needs: self.needs,
             sizes: self.limits.sizes,
         };
-        (settled, self.hops)
+        (final_fib, self.hops)
     }
 
     /// What each elementary event after the load does to the routes, computed in advance, where none came yet: the tables are let
     /// go.
     pub fn turns(self) -> Turns
-        ensures { (load : List model_elem) → Stands load [] self → AreTurnsOf load [] result }
+        ensures { (load : List model_elem) → EngineStands load [] self → AreTurnsOf load [] result }
     {
         drop(self.tables);
         Turns::new(self.alloc, self.candidates, self.hops)

@@ -15,14 +15,14 @@
 
 mod engine;
 mod error;
+mod final_fib;
 mod fitting;
-mod settled;
 mod tables;
 mod turns;
 
 pub use engine::{Engine, Limits};
 pub use error::EngineError;
+pub use final_fib::FinalFib;
 pub use route_tries::{FamilyNeeds, Found, Needs, Sizes, TrieFull, Tries};
-pub use settled::Settled;
 pub use tables::EventChanges;
 pub use turns::Turns;

@@ -226,29 +226,29 @@ impl Tables {
     }
 
     /// Hands on the routes of both, IPv4 first.
-    pub fn hand_routes<S: EntrySink>(&self, out: &mut S) -> Result<(), AllocError>
+    pub fn emit_routes<S: EntrySink>(&self, out: &mut S) -> Result<(), AllocError>
         requires { S.ready out.old }
         ensures ready { OnOk result (S.ready out.new) }
         ensures takes { OnOk result (S.takes out.old (both_routes self.now) out.new) }
     {
-        self.v4.tree().hand_routes(out)?;
-        self.v6.tree().hand_routes(out)?;
+        self.v4.tree().emit_routes(out)?;
+        self.v6.tree().emit_routes(out)?;
         Ok(())
     }
 
     /// Hands on the entries of both tables, IPv4 first.
-    pub fn hand_table<S: EntrySink>(&self, out: &mut S) -> Result<(), AllocError>
+    pub fn emit_table<S: EntrySink>(&self, out: &mut S) -> Result<(), AllocError>
         requires { S.ready out.old }
         ensures ready { OnOk result (S.ready out.new) }
         ensures takes { OnOk result (S.takes out.old (table_of self.now) out.new) }
     {
-        self.v4.hand_table(out)?;
-        self.v6.hand_table(out)?;
+        self.v4.emit_table(out)?;
+        self.v6.emit_table(out)?;
         Ok(())
     }
 
     /// Hands on the entries of the least tables of the routes, with the kept ones as the old tables; IPv4 first.
-    pub fn hand_least<S: EntrySink>(&self, out: &mut S) -> Result<(), AllocError>
+    pub fn emit_least<S: EntrySink>(&self, out: &mut S) -> Result<(), AllocError>
         requires both { AreBoth self.now }
         requires ready { S.ready out.old }
         ensures ready { OnOk result (S.ready out.new) }
@@ -256,8 +256,8 @@ impl Tables {
             self.now.v4.entries ++ aggregate_in V6 self.now.v6.routes self.now.v6.entries)
             out.new) }
     {
-        self.v4.hand_least(out)?;
-        self.v6.hand_least(out)?;
+        self.v4.emit_least(out)?;
+        self.v6.emit_least(out)?;
         Ok(())
     }
 

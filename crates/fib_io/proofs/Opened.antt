@@ -11,7 +11,7 @@ use Rattle.std.proofs.lemmas.Option.{slice_get_cases, slice_get-get_or, none-som
 use Rattle.std.proofs.lemmas.List.Quantifiers.{position-Some}
 use Rattle.std.proofs.lemmas.Slice.Eq.{bytes_eq-Decides}
 use Rattle.fib_io.specs.declared.files.OpenInput.{OpenInput}
-use Rattle.fib_io.specs.Files.{Call, calls_met, calls_of_read, has_name, KeepsOpen, open_under, Opens, OpensOnce, ReadsOnce, with_name}
+use Rattle.fib_io.specs.Files.{Call, calls_met, calls_of_read, has_name, KeepsOpen, open_under, OpensName, OpensOnce, ReadsOnce, with_name}
 
 -- ---- inputs by name
 
@@ -79,7 +79,7 @@ again : {R T E : Type 0} (input : Option (OpenInput R)) (name : List ℕ) (old :
 again None name old result s = absurd (let no : false ≡ true = s in cc)
 again (Some x) name old result s = refl
 
-not_opened : {T E : Type 0} (name : List ℕ) (old new : Option (List (List ℕ))) (result : Result T E) → IsErr result → (new ≡ old) ⊎ (new ≡ with_name name old) → Opens name old new result
+not_opened : {T E : Type 0} (name : List ℕ) (old new : Option (List (List ℕ))) (result : Result T E) → IsErr result → (new ≡ old) ⊎ (new ≡ with_name name old) → OpensName name old new result
 not_opened name old new (Ok x) failed opens = absurd (let no : false ≡ true = failed in cc)
 not_opened name old new (Err e) failed opens = opens
 
@@ -88,7 +88,7 @@ pub opens_again : {R T E : Type 0} (name : List ℕ) (xs : List (OpenInput R)) (
 opens_again name xs i old result e = again (open_under name xs) name old result (is_found (has_name name) xs i e)
 
 -- one that isn't may be
-pub opens_first : {R T E : Type 0} (name : List ℕ) (xs : List (OpenInput R)) (old new : Option (List (List ℕ))) (result : Result T E) → position (has_name name) xs ≡ None → Opens name old new result → OpensOnce (open_under name xs) name old new result
+pub opens_first : {R T E : Type 0} (name : List ℕ) (xs : List (OpenInput R)) (old new : Option (List (List ℕ))) (result : Result T E) → position (has_name name) xs ≡ None → OpensName name old new result → OpensOnce (open_under name xs) name old new result
 opens_first name xs old new result e opens = subst (λ o. OpensOnce o name old new result) (sym (none_found (has_name name) xs e)) opens
 
 -- one whose opening failed

@@ -11,20 +11,20 @@ abbrev pub IsOpened : Option (List ℕ) → Option (List ℕ) → Option ℕ →
 IsOpened content octets place = IfSome content (λ all. (octets ≡ Some all) × (place ≡ Some 0))
 
 -- where a reader tells its octets and its place, a read gave what stands there and went on behind it, or failed and moved nothing
-abbrev pub ReadsOn : {E : Type 0} → Option (List ℕ) → Option ℕ → Option ℕ → List ℕ → Result ℕ E → Type 0
-ReadsOn octets old new buf result = ForSome octets (λ all. ForSome old (λ at. MatchResult result (λ n. AreAt all at buf n × (new ≡ Some (at + n))) (λ _. new ≡ Some at)))
+abbrev pub ReadsForward : {E : Type 0} → Option (List ℕ) → Option ℕ → Option ℕ → List ℕ → Result ℕ E → Type 0
+ReadsForward octets old new buf result = ForSome octets (λ all. ForSome old (λ at. MatchResult result (λ n. AreAt all at buf n × (new ≡ Some (at + n))) (λ _. new ≡ Some at)))
 
 -- where the content is told, the reader tells it too, and stands at the place, where that is known
 abbrev pub IsOpen : Option (List ℕ) → Option (List ℕ) → Option ℕ → Option ℕ → Type 0
 IsOpen content octets position place = ForSome content (λ all. (octets ≡ Some all) × IsSome position × ForSome place (λ at. position ≡ Some at))
 
 -- the input reads what its name holds
-abbrev pub ReadsName : {R : Type 0} → (List ℕ → Option (List ℕ)) → (R → Option (List ℕ)) → (R → Option ℕ) → OpenInput R → Type 0
-ReadsName content octets position input = IsOpen (content (string_bytes input.name)) (octets input.reader) (position input.reader) input.place
+abbrev pub ReadsContent : {R : Type 0} → (List ℕ → Option (List ℕ)) → (R → Option (List ℕ)) → (R → Option ℕ) → OpenInput R → Type 0
+ReadsContent content octets position input = IsOpen (content (string_bytes input.name)) (octets input.reader) (position input.reader) input.place
 
 -- each of the inputs does
 abbrev pub AllOpen : {R : Type 0} → (List ℕ → Option (List ℕ)) → (R → Option (List ℕ)) → (R → Option ℕ) → List (OpenInput R) → Type 0
-AllOpen content octets position inputs = All (ReadsName content octets position) inputs
+AllOpen content octets position inputs = All (ReadsContent content octets position) inputs
 
 -- ---- what is asked of a system
 
@@ -42,12 +42,12 @@ abbrev pub with_name : List ℕ → Option (List (List ℕ)) → Option (List (L
 with_name name names = option_map (λ opened. opened ++ name ∷ []) names
 
 -- a reader went to a place, or failed and met no call
-abbrev pub GoesTo : {T E : Type 0} → ℕ → Option (List Call) → Option (List Call) → Result T E → Type 0
-GoesTo at old new result = MatchResult result (λ _. new ≡ with_call (Went at) old) (λ _. new ≡ old)
+abbrev pub SeeksTo : {T E : Type 0} → ℕ → Option (List Call) → Option (List Call) → Result T E → Type 0
+SeeksTo at old new result = MatchResult result (λ _. new ≡ with_call (Went at) old) (λ _. new ≡ old)
 
 -- a reader gave octets, or failed and met no call
-abbrev pub Gives : {E : Type 0} → Option (List Call) → Option (List Call) → Result ℕ E → Type 0
-Gives old new result = MatchResult result (λ n. new ≡ with_call (Gave n) old) (λ _. new ≡ old)
+abbrev pub GivesOctets : {E : Type 0} → Option (List Call) → Option (List Call) → Result ℕ E → Type 0
+GivesOctets old new result = MatchResult result (λ n. new ≡ with_call (Gave n) old) (λ _. new ≡ old)
 
 -- where calls leave a reader that stood at this place
 abbrev pub place_after : ℕ → List Call → ℕ
@@ -64,12 +64,12 @@ abbrev pub calls_of_read : ℕ → ℕ → List Call → List Call
 calls_of_read at n calls = way_to at calls ++ Gave n ∷ []
 
 -- where the calls are told, the place is the one where they left the reader, if a u64 holds it
-abbrev pub Stands : Option (List Call) → Option ℕ → Type 0
-Stands calls place = ForSome calls (λ met. ForSome place (λ at. at ≡ place_after 0 met) × (place ≡ None → 2 ^ 64 ≤ place_after 0 met))
+abbrev pub StandsAfter : Option (List Call) → Option ℕ → Type 0
+StandsAfter calls place = ForSome calls (λ met. ForSome place (λ at. at ≡ place_after 0 met) × (place ≡ None → 2 ^ 64 ≤ place_after 0 met))
 
 -- so stands each of the inputs
 abbrev pub AllStand : {R : Type 0} → (R → Option (List Call)) → List (OpenInput R) → Type 0
-AllStand calls inputs = All (λ input. Stands (calls input.reader) input.place) inputs
+AllStand calls inputs = All (λ input. StandsAfter (calls input.reader) input.place) inputs
 
 -- ---- open inputs
 
@@ -82,12 +82,12 @@ abbrev pub open_under : {R : Type 0} → List ℕ → List (OpenInput R) → Opt
 open_under name inputs = find (has_name name) inputs
 
 -- this name was opened once, and no other; if the call failed, maybe none
-abbrev pub Opens : {T E : Type 0} → List ℕ → Option (List (List ℕ)) → Option (List (List ℕ)) → Result T E → Type 0
-Opens name old new result = MatchResult result (λ _. new ≡ with_name name old) (λ _. (new ≡ old) ⊎ (new ≡ with_name name old))
+abbrev pub OpensName : {T E : Type 0} → List ℕ → Option (List (List ℕ)) → Option (List (List ℕ)) → Result T E → Type 0
+OpensName name old new result = MatchResult result (λ _. new ≡ with_name name old) (λ _. (new ≡ old) ⊎ (new ≡ with_name name old))
 
 -- a name that is open isn't opened again, nor is any other
 abbrev pub OpensOnce : {R T E : Type 0} → Option (OpenInput R) → List ℕ → Option (List (List ℕ)) → Option (List (List ℕ)) → Result T E → Type 0
-OpensOnce input name old new result = MatchOption input (Opens name old new result) (λ _. new ≡ old)
+OpensOnce input name old new result = MatchOption input (OpensName name old new result) (λ _. new ≡ old)
 
 -- the calls that the input met, none if it isn't open yet
 abbrev pub calls_met : {R : Type 0} → (R → Option (List Call)) → Option (OpenInput R) → List Call

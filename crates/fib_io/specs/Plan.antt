@@ -17,6 +17,6 @@ pub record IsNewPlan (plan : Plan) (failing : List ℕ) : Type 0 where
   pub numbers : plan.failing.items ≡ failing
 
 -- one more call was made, and the same numbers are to fail
-pub record IsNext (before now : Plan) : Type 0 where
+pub record IsNextCall (before now : Plan) : Type 0 where
   pub counted : now.calls ≡ next_call before
   pub numbers : now.failing ≡ before.failing

@@ -20,17 +20,17 @@ abbrev pub Makes : Option (List Read) → Option (List Read) → (List Read → 
 Makes before now Such = IfSome now (λ all. (old made : List Read) × (before ≡ Some old) × (all ≡ old ++ made) × Such made)
 
 -- one read, with this answer; where memory ran out none was made
-abbrev pub IsRead : List ℕ → ℕ → Result ℕ InFault → List Read → Type 0
-IsRead name at (Ok n) reads = reads ≡ read_of name at (Some n) ∷ []
-IsRead name at (Err Failed) reads = reads ≡ read_of name at None ∷ []
-IsRead name at (Err NoMemory) reads = reads ≡ []
+abbrev pub IsOneRead : List ℕ → ℕ → Result ℕ InFault → List Read → Type 0
+IsOneRead name at (Ok n) reads = reads ≡ read_of name at (Some n) ∷ []
+IsOneRead name at (Err Failed) reads = reads ≡ read_of name at None ∷ []
+IsOneRead name at (Err NoMemory) reads = reads ≡ []
 
 -- ---- passes
 
 -- the reads of this name lead from one place to another: each begins where the last one ended, and gave some octets
-abbrev pub Leads : List ℕ → ℕ → ℕ → List Read → Type 0
-Leads name from to [] = from ≡ to
-Leads name from to (read ∷ reads) = (n : ℕ) × (0 < n) × (read ≡ read_of name from (Some n)) × Leads name (from + n) to reads
+abbrev pub ReadsLead : List ℕ → ℕ → ℕ → List Read → Type 0
+ReadsLead name from to [] = from ≡ to
+ReadsLead name from to (read ∷ reads) = (n : ℕ) × (0 < n) × (read ≡ read_of name from (Some n)) × ReadsLead name (from + n) to reads
 
 -- how a pass over an input ends: at the input's end, behind the last octet that is read of an input, where a read failed, or anywhere
 pub data PassEnd : Type 0 where
@@ -51,7 +51,7 @@ pub record Pass (end : PassEnd) (name : List ℕ) (reads : List Read) : Type 0 w
   pub at : ℕ
   pub within : at ≤ 2 ^ 36
   pub front : List Read
-  pub leads : Leads name 0 at front
+  pub leads : ReadsLead name 0 at front
   pub last : List Read
   pub ends : EndsPass end name at last
   pub all : reads ≡ front ++ last

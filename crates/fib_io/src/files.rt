@@ -17,10 +17,10 @@ ghost use Rattle.std.specs.Io.Seek.{MovesTo};
 ghost use Rattle.std.specs.IoError.{error_kind};
 ghost use Rattle.std.specs.List.{position};
 ghost use Rattle.std.specs.Option.{ForSome};
-ghost use Rattle.fib_io.specs.Files.{AllOpen, AllStand, Call, calls_met, calls_of_read, Gives, GoesTo, has_name, IsOpen, IsOpened, KeepsOpen, open_under, Opens, OpensOnce, ReadsOn, ReadsOnce, Stands, way_to, with_name};
+ghost use Rattle.fib_io.specs.Files.{AllOpen, AllStand, Call, calls_met, calls_of_read, GivesOctets, SeeksTo, has_name, IsOpen, IsOpened, KeepsOpen, open_under, OpensName, OpensOnce, ReadsForward, ReadsOnce, StandsAfter, way_to, with_name};
 ghost use Rattle.fib_io.specs.Causes.{HasReadCause};
 ghost use Rattle.fib_io.specs.Octets.{AreAt};
-ghost use Rattle.fib_io.specs.Reads.{IsRead, Makes};
+ghost use Rattle.fib_io.specs.Reads.{IsOneRead, Makes};
 ghost use Rattle.fib_io.specs.declared.InFault.TheVariants.{NoMemory};
 
 use crate::{InFault, Inputs, count_fault};
@@ -38,17 +38,17 @@ pub trait ReadSeek: Read + Seek {
         ensures moves { MovesTo (Self.stream_position self.old) (Self.stream_position self.new)
             at result }
         ensures same { Keeps (Self.stream_bytes self.old) (Self.stream_bytes self.new) }
-        ensures met { GoesTo at (calls self.old) (calls self.new) result };
+        ensures met { SeeksTo at (calls self.old) (calls self.new) result };
 
     /// Reads once, from where it stands. Where it tells its octets and its place, these are the octets there, and it
     /// stands behind them then.
     fn read_on(&mut self, buf: &mut [u8]) -> io::Result<usize>
         ensures most { IfOk result (λ n. n ≤ length buf.new) }
-        ensures told { ReadsOn (Self.stream_bytes self.old) (Self.stream_position self.old)
+        ensures told { ReadsForward (Self.stream_bytes self.old) (Self.stream_position self.old)
             (Self.stream_position self.new) buf.new result }
         ensures same { ForSome (Self.stream_bytes self.old)
             (λ octets. Self.stream_bytes self.new ≡ Some octets) }
-        ensures met { Gives (calls self.old) (calls self.new) result };
+        ensures met { GivesOctets (calls self.old) (calls self.new) result };
 }
 
 impl ReadSeek for File {
@@ -145,9 +145,9 @@ impl<R: ReadSeek + Drop> OpenInput<R> {
             → IsOpen content (R.stream_bytes self.old.reader) (R.stream_position self.old.reader) self.old.place
             → IsOpen content (R.stream_bytes self.new.reader) (R.stream_position self.new.reader) self.new.place }
         ensures at { OnOk result (self.new.place ≡ Some at) }
-        ensures stands { Stands (R.calls self.old.reader) self.old.place
-            → Stands (R.calls self.new.reader) self.new.place }
-        ensures met { Stands (R.calls self.old.reader) self.old.place → OnOk result
+        ensures stands { StandsAfter (R.calls self.old.reader) self.old.place
+            → StandsAfter (R.calls self.new.reader) self.new.place }
+        ensures met { StandsAfter (R.calls self.old.reader) self.old.place → OnOk result
             (R.calls self.new.reader
             ≡ option_map (λ met. met ++ way_to at met) (R.calls self.old.reader)) }
     {
@@ -168,9 +168,9 @@ impl<R: ReadSeek + Drop> OpenInput<R> {
         ensures told { (octets : List ℕ)
             → IsOpen (Some octets) (R.stream_bytes self.old.reader) (R.stream_position self.old.reader) self.old.place
             → IfOk result (λ n. AreAt octets at buf.new n) }
-        ensures stands { Stands (R.calls self.old.reader) self.old.place
-            → Stands (R.calls self.new.reader) self.new.place }
-        ensures met { Stands (R.calls self.old.reader) self.old.place → IfOk result
+        ensures stands { StandsAfter (R.calls self.old.reader) self.old.place
+            → StandsAfter (R.calls self.new.reader) self.new.place }
+        ensures met { StandsAfter (R.calls self.old.reader) self.old.place → IfOk result
             (λ n. R.calls self.new.reader ≡ option_map
             (λ met. met ++ calls_of_read at n met) (R.calls self.old.reader)) }
     {
@@ -239,7 +239,7 @@ fn open_input<N: ByName>(
         (N.Reader.stream_bytes input.reader) (N.Reader.stream_position input.reader) input.place) }
     ensures fresh { IfOk result (λ input. IfSome (N.Reader.calls input.reader) (λ met. met ≡ [])) }
     ensures start { IfOk result (λ input. input.place ≡ Some 0) }
-    ensures opened { Opens name.now (N.opened files.old) (N.opened files.new) result }
+    ensures opened { OpensName name.now (N.opened files.old) (N.opened files.new) result }
     ensures same { N.content files.new ≡ N.content files.old }
 {
     Ok(OpenInput {
@@ -312,7 +312,7 @@ impl<N: ByName + Drop> Inputs for FileInputs<N> {
         ensures cause { HasReadCause (⟦<FileInputs<N> as Inputs>⟧.faults self.old)
             (⟦<FileInputs<N> as Inputs>⟧.faults self.new) name.now result }
         ensures made { Makes (⟦<FileInputs<N> as Inputs>⟧.reads self.old)
-            (⟦<FileInputs<N> as Inputs>⟧.reads self.new) (IsRead name.now at result) }
+            (⟦<FileInputs<N> as Inputs>⟧.reads self.new) (IsOneRead name.now at result) }
         ensures opened { OpensOnce (open_under name.now (inputs_of self.old)) name.now
             (N.opened (files_of self.old)) (N.opened (files_of self.new)) result }
         ensures once { IfOk result

@@ -14,7 +14,7 @@
 ghost use Rattle.std.specs.Prelude.{◌≡◌, ℕ, ◌≤◌, ◌<◌, ◌+◌, ◌^◌, ◌-◌, min, Option, List, length, OnOk, OnErr, IfOk, IfSome};
 ghost use Rattle.fib_io.specs.Causes.{HasCause, HasReadCause};
 ghost use Rattle.fib_io.specs.Octets.{Adds, AddsFront, AddsSome, AreAt};
-ghost use Rattle.fib_io.specs.Reads.{IsRead, Makes, Read};
+ghost use Rattle.fib_io.specs.Reads.{IsOneRead, Makes, Read};
 
 use thiserror::Error;
 
@@ -70,7 +70,7 @@ pub trait Inputs {
             (λ octets. AreAt octets at buf.new n)) }
         ensures same { content self.new ≡ content self.old }
         ensures cause { HasReadCause (faults self.old) (faults self.new) name.now result }
-        ensures made { Makes (reads self.old) (reads self.new) (IsRead name.now at result) };
+        ensures made { Makes (reads self.old) (reads self.new) (IsOneRead name.now at result) };
 }
 
 /// Octets that are written one after another.

@@ -6,7 +6,7 @@ ghost use Rattle.std.specs.Prelude.{◌≡◌, ◌≤◌, ◌-◌, ◌^◌, ◌|
 ghost use Rattle.fib_io.specs.Causes.{HasReadCause};
 ghost use Rattle.fib_io.specs.Held.{held_under};
 ghost use Rattle.fib_io.specs.Octets.{AreAt};
-ghost use Rattle.fib_io.specs.Reads.{IsRead, Makes};
+ghost use Rattle.fib_io.specs.Reads.{IsOneRead, Makes};
 
 use crate::plan::Plan;
 use crate::{InFault, Inputs, count_fault};
@@ -90,7 +90,7 @@ impl MemInputs {
 }
 
 impl Inputs for MemInputs {
-    ghost use Rattle.fib_io.specs.Plan.{IsNext, fails_next};
+    ghost use Rattle.fib_io.specs.Plan.{IsNextCall, fails_next};
     ghost use Rattle.fib_io.specs.MemInputs.{read_most, read_plan};
 
     ghost content = { λ s. held_under s.names.items };
@@ -110,13 +110,13 @@ impl Inputs for MemInputs {
         ensures cause { HasReadCause (⟦<MemInputs as Inputs>⟧.faults self.old)
             (⟦<MemInputs as Inputs>⟧.faults self.new) name.now result }
         ensures made { Makes (⟦<MemInputs as Inputs>⟧.reads self.old)
-            (⟦<MemInputs as Inputs>⟧.reads self.new) (IsRead name.now at result) }
+            (⟦<MemInputs as Inputs>⟧.reads self.new) (IsOneRead name.now at result) }
         ensures fit { IfOk result (λ n. IfSome (⟦<MemInputs as Inputs>⟧.content self.old name.now)
             (λ octets. n ≡ min (length octets - at) (min (read_most self.old) (length buf.new)))) }
         ensures kept { read_most self.new ≡ read_most self.old }
         ensures planned { is_err result ≡ (fails_next (read_plan self.old)
             || is_none (⟦<MemInputs as Inputs>⟧.content self.old name.now)) }
-        ensures next { IsNext (read_plan self.old) (read_plan self.new) }
+        ensures next { IsNextCall (read_plan self.old) (read_plan self.new) }
     {
         let is_failing = self.plan.is_next_failing();
         match find_octets(&self.names, name) {

@@ -85,7 +85,7 @@ impl MemSink {
 }
 
 impl Sink for MemSink {
-    ghost use Rattle.fib_io.specs.Plan.{IsNext, fails_next};
+    ghost use Rattle.fib_io.specs.Plan.{IsNextCall, fails_next};
     ghost use Rattle.fib_io.specs.MemSink.{room_left, write_most, write_plan};
 
     ghost written = { λ s. Some s.octets.items };
@@ -109,7 +109,7 @@ impl Sink for MemSink {
         ensures room { IfOk result (λ n. room_left self.new + n ≡ room_left self.old) }
         ensures planned { is_err result ≡ (fails_next (write_plan self.old)
             || (room_left self.old == 0 && not (length piece.now == 0))) }
-        ensures next { IsNext (write_plan self.old) (write_plan self.new) }
+        ensures next { IsNextCall (write_plan self.old) (write_plan self.new) }
     {
         let is_failing = self.plan.is_next_failing();
         let room = self.room();

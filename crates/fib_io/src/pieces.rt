@@ -4,7 +4,7 @@ ghost use Rattle.std.specs.Prelude.{◌≡◌, ◌≤◌, ◌<◌, ◌+◌, leng
 ghost use Rattle.fib_io.specs.Causes.{HasReadCause};
 ghost use Rattle.fib_io.specs.Octets.{AreAt};
 ghost use Rattle.fib_io.specs.Pieces.{ComeNext, IsEnd, IsLarge, IsReadOf, refusal_of};
-ghost use Rattle.fib_io.specs.Reads.{IsPieceRead, IsRead, Makes, Pass, whole_end};
+ghost use Rattle.fib_io.specs.Reads.{IsPieceRead, IsOneRead, Makes, Pass, whole_end};
 ghost use Rattle.fib_io.specs.declared.pieces.ReadError.TheVariants.{NoMemory};
 
 use crate::{InFault, Inputs};
@@ -81,7 +81,7 @@ fn read_within<I: Inputs>(
     ensures some { 0 < length buf.new }
     ensures same { I.content inputs.new ≡ I.content inputs.old }
     ensures cause { HasReadCause (I.faults inputs.old) (I.faults inputs.new) name.now result }
-    ensures made { Makes (I.reads inputs.old) (I.reads inputs.new) (IsRead name.now at result) }
+    ensures made { Makes (I.reads inputs.old) (I.reads inputs.new) (IsOneRead name.now at result) }
 {
     let left = MOST_OCTETS - at;
     if 0 < left && left < buf.len() as u64 {

@@ -15,7 +15,7 @@ pub struct Plan {
 }
 
 impl Plan {
-    ghost use Rattle.fib_io.specs.Plan.{IsNewPlan, IsNext, fails_next};
+    ghost use Rattle.fib_io.specs.Plan.{IsNewPlan, IsNextCall, fails_next};
 
     /// The plan before the first call.
     pub fn new(failing: Vec<u64>) -> Plan
@@ -27,7 +27,7 @@ impl Plan {
     /// Counts one more call, and says whether it is to fail.
     pub fn is_next_failing(&mut self) -> bool
         ensures value { result ≡ fails_next self.old }
-        ensures next { IsNext self.old self.new }
+        ensures next { IsNextCall self.old self.new }
     {
         self.calls = self.calls.saturating_add(1);
         self.failing.contains(&self.calls)

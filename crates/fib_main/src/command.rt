@@ -13,7 +13,7 @@ ghost use Rattle.fib_due.specs.Stops.{GivesDue};
 ghost use Rattle.fib_due.specs.Stepped.{GivesSteps};
 ghost use Rattle.fib_due.specs.Untold.{GivesSome};
 ghost use Rattle.fib_due.specs.Words.{asked_by, due_by, read_by, texts_of};
-ghost use Rattle.fib_words.specs.Commands.{asked_as, Check, IsWithin, Make, Run};
+ghost use Rattle.fib_words.specs.Commands.{asked_as, Check, AreWithinLimits, Make, Run};
 
 use fib_due::{Outcome, Reply};
 use fib_io::Inputs;
@@ -36,7 +36,7 @@ fn reply_to<I: Inputs>(
     inputs: &mut I,
     command: &CommandWords<'_>,
 ) -> Result<Reply, Outcome>
-    requires { IsWithin command.now }
+    requires { AreWithinLimits command.now }
     ensures due { GivesDue reply_as result
         (with_reply (output_at (I.content inputs.old) (asked_as command.now))) }
     ensures some { GivesSome (I.content inputs.old) (Some (asked_as command.now)) result }

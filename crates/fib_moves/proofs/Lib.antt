@@ -4,3 +4,8 @@ pub mod Proving
 pub mod Whole
 pub mod Ways
 pub mod Turns
+pub mod Same
+pub mod Settled
+pub mod Finding
+pub mod Prefix
+pub mod Routed

@@ -7,21 +7,21 @@ use Rattle.table_model.specs.Table.{Table, IsTable, root, half, inherit}
 use Rattle.table_model.proofs.Cut.{entry}
 use Rattle.table_model.specs.Sets.{is_in, smallest, side, set_of, k_of}
 use Rattle.table_model.proofs.Patch.{table_half, no_half}
-use Rattle.hop_sets.specs.Hops.{SameHops}
-use Rattle.orig_tree.specs.Spots.{Spot, answers_in}
+use Rattle.fib_addr.specs.HopSets.{SameHops}
+use Rattle.orig_tree.specs.Spots.{Spot, spot_answers}
 use Rattle.orig_tree.specs.Walk.{Walks, behind}
 use Rattle.ortc.proofs.Alike.{half_answers}
 use Rattle.moves_model.specs.Sets.{Allowed, these, is_allowed, allowed_by_both, gap, least_allowed, set_over, k_over, inner_set, inner_k, near_set, near_k}
 use Rattle.moves_model.proofs.Near.{set_hop}
-use Rattle.moves_cert.specs.Demands.{is_bare, has_no_entries}
-use Rattle.moves_cert.proofs.Regions.{inner_bare, bare_half, inner_alike, inner_more}
+use Rattle.moves_model.specs.Demands.{is_bare, has_no_entries}
+use Rattle.moves_model.proofs.Regions.{inner_bare, bare_half, inner_alike, inner_more}
 use Rattle.fib_moves.specs.declared.needs.RegionNeeds.{RegionNeeds}
 use Rattle.fib_moves.specs.declared.needs.RegionNeeds.TheViews.{out-RegionNeeds}
 use Rattle.fib_moves.specs.declared.place.Place.{Place}
 use Rattle.fib_moves.specs.Needs.{Knows, AreFound, IsJoined, IsNodeOf}
-use Rattle.allowed_hops.specs.declared.allowed.AllowedHops.{AllowedHops}
-use Rattle.allowed_hops.specs.Views.{SameAllowed, allowed_as}
-use Rattle.allowed_hops.proofs.Same.{same_allowed, same_both, same_least, same_then}
+use Rattle.fib_moves.specs.declared.allowed.AllowedHops.{AllowedHops}
+use Rattle.fib_moves.specs.Views.{SameAllowed, allowed_as}
+use Rattle.fib_moves.proofs.Same.{same_allowed, same_both, same_least, same_then}
 
 -- ---- what is known
 
@@ -122,17 +122,17 @@ knows_alike (suc d) f g T (Some b) e x =
 
 -- a half's region, told from the whole one
 module _ (s t : Spot) (b : Bool) (n : suc t.bits ≡ s.bits) (r : t.routes ≡ half b s.routes) (l : t.entries ≡ half b s.entries) (h : t.hop ≡ inherit (root s.routes) s.hop) where
-  pub knows_half : (x : Option (Box RegionNeeds Global)) → Knows t.bits (answers_in t) t.entries x → Knows t.bits (side b (answers_in s)) (half b s.entries) x
-  knows_half x k = subst (λ (L : Table). Knows t.bits (side b (answers_in s)) L x) l (knows_alike t.bits (answers_in t) (side b (answers_in s)) t.entries x (λ a m. half_answers s t b r h a) k)
+  pub knows_half : (x : Option (Box RegionNeeds Global)) → Knows t.bits (spot_answers t) t.entries x → Knows t.bits (side b (spot_answers s)) (half b s.entries) x
+  knows_half x k = subst (λ (L : Table). Knows t.bits (side b (spot_answers s)) L x) l (knows_alike t.bits (spot_answers t) (side b (spot_answers s)) t.entries x (λ a m. half_answers s t b r h a) k)
 
-  pub knows_back : (x : Option (Box RegionNeeds Global)) → Knows t.bits (side b (answers_in s)) (half b s.entries) x → Knows t.bits (answers_in t) t.entries x
-  knows_back x k = knows_alike t.bits (side b (answers_in s)) (answers_in t) t.entries x (λ a m. sym (half_answers s t b r h a)) (subst (λ (L : Table). Knows t.bits (side b (answers_in s)) L x) (sym l) k)
+  pub knows_back : (x : Option (Box RegionNeeds Global)) → Knows t.bits (side b (spot_answers s)) (half b s.entries) x → Knows t.bits (spot_answers t) t.entries x
+  knows_back x k = knows_alike t.bits (side b (spot_answers s)) (spot_answers t) t.entries x (λ a m. sym (half_answers s t b r h a)) (subst (λ (L : Table). Knows t.bits (side b (spot_answers s)) L x) (sym l) k)
 
-  pub near_half : (near_set t.bits (answers_in t) t.entries ≡ near_set t.bits (side b (answers_in s)) (half b s.entries)) × (near_k t.bits (answers_in t) t.entries ≡ near_k t.bits (side b (answers_in s)) (half b s.entries))
+  pub near_half : (near_set t.bits (spot_answers t) t.entries ≡ near_set t.bits (side b (spot_answers s)) (half b s.entries)) × (near_k t.bits (spot_answers t) t.entries ≡ near_k t.bits (side b (spot_answers s)) (half b s.entries))
   near_half =
-      let a = inner_alike t.bits (answers_in t) (side b (answers_in s)) t.entries (λ y m. half_answers s t b r h y) in (
-        ap (set_over (root t.entries)) a.0 ∙ ap (λ L. near_set t.bits (side b (answers_in s)) L) l,
-        ap (λ S. k_over (root t.entries) S (inner_k t.bits (answers_in t) t.entries)) a.0 ∙ (ap (k_over (root t.entries) (inner_set t.bits (side b (answers_in s)) t.entries)) a.1 ∙ ap (λ L. near_k t.bits (side b (answers_in s)) L) l),
+      let a = inner_alike t.bits (spot_answers t) (side b (spot_answers s)) t.entries (λ y m. half_answers s t b r h y) in (
+        ap (set_over (root t.entries)) a.0 ∙ ap (λ L. near_set t.bits (side b (spot_answers s)) L) l,
+        ap (λ S. k_over (root t.entries) S (inner_k t.bits (spot_answers t) t.entries)) a.0 ∙ (ap (k_over (root t.entries) (inner_set t.bits (side b (spot_answers s)) t.entries)) a.1 ∙ ap (λ L. near_k t.bits (side b (spot_answers s)) L) l),
       )
 
 -- ---- a region from its halves
@@ -157,21 +157,21 @@ module _ (s low high : Spot) (ln : suc low.bits ≡ s.bits) (lr : low.routes ≡
   same_bits : high.bits ≡ low.bits
   same_bits = omega (arith, ln, hn)
 
-  pub knows_join : (x : Option (Box RegionNeeds Global)) → IsJoined low high x → Knows s.bits (answers_in s) s.entries x
+  pub knows_join : (x : Option (Box RegionNeeds Global)) → IsJoined low high x → Knows s.bits (spot_answers s) s.entries x
   knows_join None j = bare_from s.entries (sym le ∙ j.0) (sym he ∙ j.1)
   knows_join (Some b) j =
       let d = low.bits in
-      let f = answers_in s in
+      let f = spot_answers s in
       let T = s.entries in
       let u = near_half s low false ln lr le lh in
       let v = near_half s high true hn hr he hh in
       let m = inner_more d f T in
-      let hs : near_set high.bits (answers_in high) high.entries ≡ near_set d (side true f) (half true T) = v.0 ∙ ap (λ n. near_set n (side true f) (half true T)) same_bits in
-      let hk : near_k high.bits (answers_in high) high.entries ≡ near_k d (side true f) (half true T) = v.1 ∙ ap (λ n. near_k n (side true f) (half true T)) same_bits in
-      let set : allowed_by_both (near_set low.bits (answers_in low) low.entries) (near_set high.bits (answers_in high) high.entries) ≡ inner_set (suc d) f T =
-      ap (λ x. allowed_by_both x (near_set high.bits (answers_in high) high.entries)) u.0 ∙ (ap (allowed_by_both (near_set d (side false f) (half false T))) hs ∙ sym m.0) in
-      let gaps : gap (near_set low.bits (answers_in low) low.entries) (near_set high.bits (answers_in high) high.entries) ≡ gap (near_set d (side false f) (half false T)) (near_set d (side true f) (half true T)) =
-      ap (λ x. gap x (near_set high.bits (answers_in high) high.entries)) u.0 ∙ ap (gap (near_set d (side false f) (half false T))) hs in
+      let hs : near_set high.bits (spot_answers high) high.entries ≡ near_set d (side true f) (half true T) = v.0 ∙ ap (λ n. near_set n (side true f) (half true T)) same_bits in
+      let hk : near_k high.bits (spot_answers high) high.entries ≡ near_k d (side true f) (half true T) = v.1 ∙ ap (λ n. near_k n (side true f) (half true T)) same_bits in
+      let set : allowed_by_both (near_set low.bits (spot_answers low) low.entries) (near_set high.bits (spot_answers high) high.entries) ≡ inner_set (suc d) f T =
+      ap (λ x. allowed_by_both x (near_set high.bits (spot_answers high) high.entries)) u.0 ∙ (ap (allowed_by_both (near_set d (side false f) (half false T))) hs ∙ sym m.0) in
+      let gaps : gap (near_set low.bits (spot_answers low) low.entries) (near_set high.bits (spot_answers high) high.entries) ≡ gap (near_set d (side false f) (half false T)) (near_set d (side true f) (half true T)) =
+      ap (λ x. gap x (near_set high.bits (spot_answers high) high.entries)) u.0 ∙ ap (gap (near_set d (side false f) (half false T))) hs in
       let k : (out-RegionNeeds (box_value b)).k ≡ inner_k (suc d) f T = omega (arith, j.2, u.1, hk, gaps, m.1) in
       let whole : Knows (suc d) f T (Some b) = (
         not_bare T (λ x y. j.0 (le ∙ x) (he ∙ y)),
@@ -199,21 +199,21 @@ place_half p q b x n e m = record {
 -- ---- put together
 
 pub joined_some : (low high : Spot) (b : Box RegionNeeds Global) (first second w : Allowed) (k m n : ℕ) (apart : Bool) (l h : Option (Box RegionNeeds Global))
-    → SameAllowed first (near_set low.bits (answers_in low) low.entries) → SameAllowed second (near_set high.bits (answers_in high) high.entries)
+    → SameAllowed first (near_set low.bits (spot_answers low) low.entries) → SameAllowed second (near_set high.bits (spot_answers high) high.entries)
     → SameAllowed w (allowed_by_both first second) → cond apart 1 0 ≡ gap first second
-    → m ≡ near_k low.bits (answers_in low) low.entries → n ≡ near_k high.bits (answers_in high) high.entries
+    → m ≡ near_k low.bits (spot_answers low) low.entries → n ≡ near_k high.bits (spot_answers high) high.entries
     → k ≡ cond apart (m + n + 1) (m + n)
-    → Knows low.bits (answers_in low) low.entries l → Knows high.bits (answers_in high) high.entries h
+    → Knows low.bits (spot_answers low) low.entries l → Knows high.bits (spot_answers high) high.entries h
     → (low.entries ≡ [] → high.entries ≡ [] → ⊥) → allowed_as (out-RegionNeeds (box_value b)).hops ≡ w → (out-RegionNeeds (box_value b)).k ≡ k → (out-RegionNeeds (box_value b)).low ≡ l → (out-RegionNeeds (box_value b)).high ≡ h
     → IsJoined low high (Some b)
 joined_some low high b first second w k m n apart l h e f x g i j c p q some bw bk bl bh =
-    let z = same_both first second (near_set low.bits (answers_in low) low.entries) (near_set high.bits (answers_in high) high.entries) e f in
+    let z = same_both first second (near_set low.bits (spot_answers low) low.entries) (near_set high.bits (spot_answers high) high.entries) e f in
     let more : (t : Bool) → cond t (m + n + 1) (m + n) ≡ m + n + cond t 1 0 = one_more m n in (
       some,
-      subst (λ y. SameAllowed y (allowed_by_both (near_set low.bits (answers_in low) low.entries) (near_set high.bits (answers_in high) high.entries))) (sym bw) (same_then w (allowed_by_both first second) _ x z.0),
+      subst (λ y. SameAllowed y (allowed_by_both (near_set low.bits (spot_answers low) low.entries) (near_set high.bits (spot_answers high) high.entries))) (sym bw) (same_then w (allowed_by_both first second) _ x z.0),
       omega (arith, bk, c, more apart, g, z.1, i, j),
-      subst (Knows low.bits (answers_in low) low.entries) (sym bl) p,
-      subst (Knows high.bits (answers_in high) high.entries) (sym bh) q,
+      subst (Knows low.bits (spot_answers low) low.entries) (sym bl) p,
+      subst (Knows high.bits (spot_answers high) high.entries) (sym bh) q,
     )
   where
     one_more : (m n : ℕ) (t : Bool) → cond t (m + n + 1) (m + n) ≡ m + n + cond t 1 0

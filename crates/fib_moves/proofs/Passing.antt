@@ -16,19 +16,19 @@ use Rattle.kept_model.specs.Parts.{BothOrNeither, ArePart}
 use Rattle.kept_model.proofs.Parting.{part_here, part_join}
 use Rattle.fib_addr.specs.Views.{prefix_as, entry_as}
 use Rattle.fib_addr.specs.declared.prefix.Prefix as code
-use Rattle.orig_tree.specs.Spots.{Spot, answers_in}
+use Rattle.orig_tree.specs.Spots.{Spot, spot_answers}
 use Rattle.orig_tree.proofs.Telling as telling
 use Rattle.ortc.proofs.Alike.{half_answers}
 use Rattle.moves_model.specs.Sets.{Allowed, these, is_allowed, least_allowed, new_entry, inner_set, near_of}
 use Rattle.moves_model.proofs.Allowed.{holds_new}
 use Rattle.moves_model.proofs.Near.{set_hop}
 use Rattle.moves_model.proofs.Keeps.{root_near}
-use Rattle.moves_cert.specs.Demands.{is_bare}
-use Rattle.moves_cert.proofs.Regions.{bare_half, inner_leaf, inner_alike}
+use Rattle.moves_model.specs.Demands.{is_bare}
+use Rattle.moves_model.proofs.Regions.{bare_half, inner_leaf, inner_alike}
 use Rattle.fib_moves.specs.declared.needs.RegionNeeds.{RegionNeeds}
 use Rattle.fib_moves.specs.declared.down.Differing.{Differing}
 use Rattle.fib_moves.specs.Needs.{Knows, AreFound, half_needs}
-use Rattle.allowed_hops.specs.declared.allowed.AllowedHops.{AllowedHops}
+use Rattle.fib_moves.specs.declared.allowed.AllowedHops.{AllowedHops}
 use Rattle.fib_moves.specs.Passes.{EndsThere, ListsDiffering}
 use Rattle.fib_moves.proofs.Parts.{found_bare, knows_back}
 
@@ -60,10 +60,10 @@ knows_side d f T true (Some s) bare x e = x.4
 knows_side d f T false (Some s) bare x e = x.3
 
 pub knows_down : (s t : Spot) (b : Bool) (x y z : Option (Box RegionNeeds Global)) → suc t.bits ≡ s.bits → t.routes ≡ half b s.routes → t.entries ≡ half b s.entries → t.hop ≡ inherit (root s.routes) s.hop
-    → Knows s.bits (answers_in s) s.entries x → y ≡ None → z ≡ half_needs b x y → Knows t.bits (answers_in t) t.entries z
+    → Knows s.bits (spot_answers s) s.entries x → y ≡ None → z ≡ half_needs b x y → Knows t.bits (spot_answers t) t.entries z
 knows_down s t b x y z n r l h k e i =
     knows_back s t b n r l h z
-    (subst (Knows t.bits (side b (answers_in s)) (half b s.entries)) (sym i) (knows_side t.bits (answers_in s) s.entries b x y (subst (λ (d : ℕ). Knows d (answers_in s) s.entries x) (sym n) k) e))
+    (subst (Knows t.bits (side b (spot_answers s)) (half b s.entries)) (sym i) (knows_side t.bits (spot_answers s) s.entries b x y (subst (λ (d : ℕ). Knows d (spot_answers s) s.entries x) (sym n) k) e))
 
 pub table_down : (s t : Spot) (b : Bool) → suc t.bits ≡ s.bits → t.entries ≡ half b s.entries → IsTable s.bits s.entries → IsTable t.bits t.entries
 table_down s t b n l x = subst (λ (L : Table). IsTable t.bits L) (sym l) (table_half b t.bits s.entries (subst (λ (d : ℕ). IsTable d s.entries) (sym n) x))
@@ -120,17 +120,17 @@ pub here_table : (d : ℕ) (o : Option ℕ) → IsTable d (here o)
 here_table d None = (tt, tt)
 here_table d (Some h) = ((tt, tt), (omega arith, tt))
 
-own_both : (s : Spot) (g : ℕ) (had gets o n : Option ℕ) → had ≡ root s.entries → gets ≡ new_entry (inner_set s.bits (answers_in s) s.entries) (root s.entries) g → BothOrNeither had gets o n
-    → BothOrNeither (root s.entries) (root (near_of s.bits (answers_in s) s.entries g)) o n
+own_both : (s : Spot) (g : ℕ) (had gets o n : Option ℕ) → had ≡ root s.entries → gets ≡ new_entry (inner_set s.bits (spot_answers s) s.entries) (root s.entries) g → BothOrNeither had gets o n
+    → BothOrNeither (root s.entries) (root (near_of s.bits (spot_answers s) s.entries g)) o n
 own_both s g had gets o n e f x =
-    subst (λ (a : Option ℕ). BothOrNeither a (root (near_of s.bits (answers_in s) s.entries g)) o n) e (subst (λ (b : Option ℕ). BothOrNeither had b o n) (f ∙ sym (root_near s.bits (answers_in s) s.entries g)) x)
+    subst (λ (a : Option ℕ). BothOrNeither a (root (near_of s.bits (spot_answers s) s.entries g)) o n) e (subst (λ (b : Option ℕ). BothOrNeither had b o n) (f ∙ sym (root_near s.bits (spot_answers s) s.entries g)) x)
 
 -- the new entry, from the old one as it was told
-pub own_due : (s : Spot) (g : ℕ) (had gets : Option ℕ) → had ≡ root s.entries → gets ≡ new_entry (inner_set s.bits (answers_in s) s.entries) had g → gets ≡ new_entry (inner_set s.bits (answers_in s) s.entries) (root s.entries) g
-own_due s g had gets e f = f ∙ ap (λ o. new_entry (inner_set s.bits (answers_in s) s.entries) o g) e
+pub own_due : (s : Spot) (g : ℕ) (had gets : Option ℕ) → had ≡ root s.entries → gets ≡ new_entry (inner_set s.bits (spot_answers s) s.entries) had g → gets ≡ new_entry (inner_set s.bits (spot_answers s) s.entries) (root s.entries) g
+own_due s g had gets e f = f ∙ ap (λ o. new_entry (inner_set s.bits (spot_answers s) s.entries) o g) e
 
 -- a region with nothing below its prefix
-pub pass_end : (s : Spot) (q : Prefix) (g : ℕ) (had gets o n : Option ℕ) (before after : Differing) → EndsThere s.bits (answers_in s) s.entries → had ≡ root s.entries → gets ≡ new_entry (inner_set s.bits (answers_in s) s.entries) (root s.entries) g → BothOrNeither had gets o n
+pub pass_end : (s : Spot) (q : Prefix) (g : ℕ) (had gets o n : Option ℕ) (before after : Differing) → EndsThere s.bits (spot_answers s) s.entries → had ≡ root s.entries → gets ≡ new_entry (inner_set s.bits (spot_answers s) s.entries) (root s.entries) g → BothOrNeither had gets o n
     → map entry_as after.had.items ≡ map entry_as before.had.items ++ map (λ k. (q, k)) (option_to_list o) → map entry_as after.gets.items ≡ map entry_as before.gets.items ++ map (λ k. (q, k)) (option_to_list n) → ListsDiffering q s g before after
 pass_end s q g had gets o n before after end e f x y z = record {
   had = here o;
@@ -139,7 +139,7 @@ pass_end s q g had gets o n before after end e f x y z = record {
   new = z ∙ ap (λ L. map entry_as before.gets.items ++ L) (telling.told_own q n);
   had_table = here_table s.bits o;
   gets_table = here_table s.bits n;
-  part = part_here s.entries (near_of s.bits (answers_in s) s.entries g) o n (λ b. end b g) (own_both s g had gets o n e f x);
+  part = part_here s.entries (near_of s.bits (spot_answers s) s.entries g) o n (λ b. end b g) (own_both s g had gets o n e f x);
 }
 
 -- and one of two halves
@@ -160,13 +160,13 @@ three_lists p q r o A B X Y Z W e f y z w =
     w' ∙ (ap (λ x. x ++ D) (z' ∙ ap (λ x. x ++ C) (y ∙ ap (λ x. X ++ x) (telling.told_own p o))) ∙ (append_assoc (X ++ O) C D ∙ (append_assoc X O (C ++ D) ∙ ap (λ x. X ++ x) (sym whole))))
 
 half_part : (s t : Spot) (b : Bool) (g k : ℕ) (gets : Option ℕ) (O N : Table) → suc t.bits ≡ s.bits → t.routes ≡ half b s.routes → t.entries ≡ half b s.entries → t.hop ≡ inherit (root s.routes) s.hop
-    → gets ≡ new_entry (inner_set s.bits (answers_in s) s.entries) (root s.entries) g → k ≡ inherit gets g
-    → ArePart t.entries (near_of t.bits (answers_in t) t.entries k) O N → ArePart (half b s.entries) (half b (near_of s.bits (answers_in s) s.entries g)) O N
+    → gets ≡ new_entry (inner_set s.bits (spot_answers s) s.entries) (root s.entries) g → k ≡ inherit gets g
+    → ArePart t.entries (near_of t.bits (spot_answers t) t.entries k) O N → ArePart (half b s.entries) (half b (near_of s.bits (spot_answers s) s.entries g)) O N
 half_part s t b g k gets O N n r l h f i x =
-    let f' = answers_in s in
+    let f' = spot_answers s in
     let L = s.entries in
-    let told : near_of t.bits (answers_in t) t.entries k ≡ half b (near_of s.bits f' L g) =
-    near_alike t.bits (answers_in t) (side b f') t.entries k (λ a u. half_answers s t b r h a)
+    let told : near_of t.bits (spot_answers t) t.entries k ≡ half b (near_of s.bits f' L g) =
+    near_alike t.bits (spot_answers t) (side b f') t.entries k (λ a u. half_answers s t b r h a)
     ∙ (ap (λ M. near_of t.bits (side b f') M k) l
     ∙ (ap (near_of t.bits (side b f') (half b L)) (i ∙ ap (λ (o : Option ℕ). inherit o g) (f ∙ sym (root_near s.bits f' L g)))
     ∙ subst (λ (d : ℕ). near_of t.bits (side b f') (half b L) (inherit (root (near_of d f' L g)) g) ≡ half b (near_of d f' L g)) n (near_down b t.bits f' L g)))
@@ -174,7 +174,7 @@ half_part s t b g k gets O N n r l h f i x =
     subst (λ (M : Table). ArePart M (half b (near_of s.bits f' L g)) O N) l (subst (λ (A : Table). ArePart t.entries A O N) told x)
 
 module _ (p : Prefix) (q r : code.Prefix) (s low high : Spot) (g k : ℕ) (had gets o n : Option ℕ) (a b c d : Differing)
-    (e : had ≡ root s.entries) (f : gets ≡ new_entry (inner_set s.bits (answers_in s) s.entries) (root s.entries) g) (i : k ≡ inherit gets g) (x : BothOrNeither had gets o n)
+    (e : had ≡ root s.entries) (f : gets ≡ new_entry (inner_set s.bits (spot_answers s) s.entries) (root s.entries) g) (i : k ≡ inherit gets g) (x : BothOrNeither had gets o n)
     (y : map entry_as b.had.items ≡ map entry_as a.had.items ++ map (λ k. (p, k)) (option_to_list o)) (z : map entry_as b.gets.items ≡ map entry_as a.gets.items ++ map (λ k. (p, k)) (option_to_list n))
     (ln : suc low.bits ≡ s.bits) (lr : low.routes ≡ half false s.routes) (le : low.entries ≡ half false s.entries) (lh : low.hop ≡ inherit (root s.routes) s.hop)
     (hn : suc high.bits ≡ s.bits) (hr : high.routes ≡ half true s.routes) (he : high.entries ≡ half true s.entries) (hh : high.hop ≡ inherit (root s.routes) s.hop)
@@ -187,7 +187,7 @@ module _ (p : Prefix) (q r : code.Prefix) (s low high : Spot) (g k : ℕ) (had g
     new = three_lists p q r n v.gets w.gets (map entry_as a.gets.items) (map entry_as b.gets.items) (map entry_as c.gets.items) (map entry_as d.gets.items) eq er z v.new w.new;
     had_table = subst (λ (m : ℕ). IsTable m (join o v.had w.had)) ln (table_join o low.bits v.had w.had v.had_table (subst (λ (m : ℕ). IsTable m w.had) same w.had_table));
     gets_table = subst (λ (m : ℕ). IsTable m (join n v.gets w.gets)) ln (table_join n low.bits v.gets w.gets v.gets_table (subst (λ (m : ℕ). IsTable m w.gets) same w.gets_table));
-    part = part_join s.entries (near_of s.bits (answers_in s) s.entries g) o n v.had v.gets w.had w.gets (own_both s g had gets o n e f x) (half_part s low false g k gets v.had v.gets ln lr le lh f i v.part) (half_part s high true g k gets w.had w.gets hn hr he hh f i w.part);
+    part = part_join s.entries (near_of s.bits (spot_answers s) s.entries g) o n v.had v.gets w.had w.gets (own_both s g had gets o n e f x) (half_part s low false g k gets v.had v.gets ln lr le lh f i v.part) (half_part s high true g k gets w.had w.gets hn hr he hh f i w.part);
   }
     where
       same : high.bits ≡ low.bits

@@ -18,7 +18,7 @@ use Rattle.table_model.proofs.Join.{distinct_lift, short_lift}
 use Rattle.table_model.proofs.Region.{begins_append, cut_lift}
 use Rattle.table_model.proofs.Patch.{cut_cut, begins_rest}
 use Rattle.table_model.proofs.Same.{cut_nil}
-use Rattle.kept_model.specs.Between.{AreEntries, hop_at, change_at, between}
+use Rattle.kept_model.specs.Between.{AreEntries, entry_hop_at, change_at, between}
 use Rattle.kept_model.proofs.Alike.{alike_changes, placed_are}
 use Rattle.kept_model.proofs.Families.{hop_none, table_of}
 use Rattle.kept_model.proofs.Repairs.{table_entries}
@@ -27,18 +27,18 @@ use Rattle.kept_model.specs.Parts.{BothOrNeither, ArePart}
 use Rattle.fib_addr.specs.Views.{prefix_as}
 use Rattle.fib_addr.specs.declared.prefix.Prefix as code
 use Rattle.orig_tree.specs.Views.{Labels, InPlace}
-use Rattle.orig_tree.specs.Spots.{Spot, answers_in}
+use Rattle.orig_tree.specs.Spots.{Spot, spot_answers}
 use Rattle.orig_tree.proofs.Telling as telling
 use Rattle.moves_model.specs.Sets.{new_entry, inner_set, near_of}
 use Rattle.moves_model.specs.Nearest.{nearest}
-use Rattle.moves_cert.specs.Rows.{near_in}
-use Rattle.moves_cert.proofs.Whole.{near_entries}
-use Rattle.moves_cert.proofs.Regions.{inner_alike}
-use Rattle.moves_event.specs.Way.{AlikeBeside, turn, event_set, turn_entry, event_hop}
-use Rattle.moves_event.proofs.Event.{event_off, event_turn, event_within, turn_on, same_or}
+use Rattle.moves_model.specs.Rows.{near_in}
+use Rattle.moves_model.proofs.Whole.{near_entries}
+use Rattle.moves_model.proofs.Regions.{inner_alike}
+use Rattle.moves_model.specs.Way.{AlikeBeside, turn, event_set, turn_entry, event_hop}
+use Rattle.moves_model.proofs.Event.{event_off, event_turn, event_within, turn_on, same_or}
 use Rattle.fib_addr.proofs.Parts.{length_prefix}
 use Rattle.std.proofs.lemmas.Bool.{cases_lt}
-use Rattle.fib_moves.specs.declared.way.Turn.{Turn}
+use Rattle.fib_moves.specs.declared.way.LastBlocked.{LastBlocked}
 use Rattle.fib_moves.specs.Turns.{around, gets_at, TurnCase, AreTurned}
 use Rattle.fib_moves.proofs.Passing.{near_alike}
 use Rattle.fib_moves.proofs.Whole.{both_change}
@@ -121,28 +121,28 @@ around_told f q o p L e =
 -- ---- the whole table's parts
 
 module _ (w : ℕ) (R T : Table) (p : List Bool) (s : Spot) (l : length p ≤ w) (t : IsTable w T) (y : AlikeBeside w p R T)
-    (n : s.bits + length p ≡ w) (a : (x : List Bool) → answers_in s x ≡ answers R p x) (e : s.entries ≡ cut p T)
-    (o u : Option ℕ) (h : ℕ) (had gets : Table) (part : ArePart s.entries (near_of s.bits (answers_in s) s.entries h) had gets)
+    (n : s.bits + length p ≡ w) (a : (x : List Bool) → spot_answers s x ≡ answers R p x) (e : s.entries ≡ cut p T)
+    (o u : Option ℕ) (h : ℕ) (had gets : Table) (part : ArePart s.entries (near_of s.bits (spot_answers s) s.entries h) had gets)
     (hop : h ≡ event_hop w R p T) (fo : Fine (turn p w T) o p) (fu : Fine (turn p w T) u p)
     (at : begins p (turn p w T) ≡ false → BothOrNeither (entry_at (turn p w T) T) (turn_entry w R p T) o u) where
   r : List Bool
   r = turn p w T
 
-  near_p : near_of s.bits (answers_in s) s.entries h ≡ near_of (w - length p) (answers R p) (cut p T) (event_hop w R p T)
+  near_p : near_of s.bits (spot_answers s) s.entries h ≡ near_of (w - length p) (answers R p) (cut p T) (event_hop w R p T)
   near_p =
       let m : s.bits ≡ w - length p = omega (arith, n) in
-      near_alike s.bits (answers_in s) (answers R p) s.entries h (λ x k. a x)
+      near_alike s.bits (spot_answers s) (answers R p) s.entries h (λ x k. a x)
       ∙ (ap (λ d. near_of d (answers R p) s.entries h) m ∙ (ap (λ L. near_of (w - length p) (answers R p) L h) e ∙ ap (near_of (w - length p) (answers R p) (cut p T)) hop))
 
   in_p : (x : List Bool) → BothOrNeither (entry_at (p ++ x) T) (entry_at (p ++ x) (nearest w R T)) (entry_at (p ++ x) (around (turn p w T) o p had)) (entry_at (p ++ x) (around (turn p w T) u p gets))
   in_p x =
       let A : entry_at x s.entries ≡ entry_at (p ++ x) T = ap (entry_at x) e ∙ sym (ap root (cut_cut p x T)) in
-      let B : entry_at x (near_of s.bits (answers_in s) s.entries h) ≡ entry_at (p ++ x) (nearest w R T) =
+      let B : entry_at x (near_of s.bits (spot_answers s) s.entries h) ≡ entry_at (p ++ x) (nearest w R T) =
       ap (entry_at x) near_p ∙ (sym (event_within w R T p l t y x) ∙ sym (ap root (cut_cut p x (nearest w R T)))) in
       subst (λ (z : Option ℕ). BothOrNeither (entry_at (p ++ x) T) (entry_at (p ++ x) (nearest w R T)) (entry_at (p ++ x) (around (turn p w T) o p had)) z) (sym (around_in (turn p w T) u p x gets fu))
       (subst (λ (z : Option ℕ). BothOrNeither (entry_at (p ++ x) T) (entry_at (p ++ x) (nearest w R T)) z (entry_at x gets)) (sym (around_in (turn p w T) o p x had fo))
       (subst (λ (z : Option ℕ). BothOrNeither (entry_at (p ++ x) T) z (entry_at x had) (entry_at x gets)) B
-      (subst (λ (z : Option ℕ). BothOrNeither z (entry_at x (near_of s.bits (answers_in s) s.entries h)) (entry_at x had) (entry_at x gets)) A (part x))))
+      (subst (λ (z : Option ℕ). BothOrNeither z (entry_at x (near_of s.bits (spot_answers s) s.entries h)) (entry_at x had) (entry_at x gets)) A (part x))))
 
   at_r : begins p (turn p w T) ≡ false → BothOrNeither (entry_at (turn p w T) T) (entry_at (turn p w T) (nearest w R T)) (entry_at (turn p w T) (around (turn p w T) o p had)) (entry_at (turn p w T) (around (turn p w T) u p gets))
   at_r f =
@@ -176,7 +176,7 @@ changes_alike k had gets cs i all ht gt parts told =
     told
     ∙ sym (alike_changes (of_table k.family had) (of_table k.family gets) k.entries (near_in k.family k.routes k.entries) (table_entries k.family had ht) (table_entries k.family gets gt) (placed_are k.entries i) (near_entries k.family k.routes k.entries (placed_are k.entries i) all) one_change)
   where
-    one_change : (q : Prefix) → change_at q (hop_at q k.entries) (hop_at q (near_in k.family k.routes k.entries)) ≡ change_at q (hop_at q (of_table k.family had)) (hop_at q (of_table k.family gets))
+    one_change : (q : Prefix) → change_at q (entry_hop_at q k.entries) (entry_hop_at q (near_in k.family k.routes k.entries)) ≡ change_at q (entry_hop_at q (of_table k.family had)) (entry_hop_at q (of_table k.family gets))
     one_change q = by_family (same_family q.family k.family) refl
       where
         f : Family
@@ -185,27 +185,27 @@ changes_alike k had gets cs i all ht gt parts told =
         N : Entries
         N = near_in k.family k.routes k.entries
 
-        by_family : (b : Bool) → same_family q.family k.family ≡ b → change_at q (hop_at q k.entries) (hop_at q (near_in k.family k.routes k.entries)) ≡ change_at q (hop_at q (of_table k.family had)) (hop_at q (of_table k.family gets))
+        by_family : (b : Bool) → same_family q.family k.family ≡ b → change_at q (entry_hop_at q k.entries) (entry_hop_at q (near_in k.family k.routes k.entries)) ≡ change_at q (entry_hop_at q (of_table k.family had)) (entry_hop_at q (of_table k.family gets))
         by_family false m =
-            ap (λ o. change_at q o (hop_at q (near_in k.family k.routes k.entries))) (hop_none k.family q k.entries all m) ∙ (ap (change_at q None) (hop_none k.family q (near_in k.family k.routes k.entries) (table_of k.family (nearest (width k.family) (of_family k.family k.routes) (of_family k.family k.entries))) m)
-            ∙ sym (ap (λ o. change_at q o (hop_at q (of_table k.family gets))) (hop_none k.family q (of_table k.family had) (table_of k.family had) m) ∙ ap (change_at q None) (hop_none k.family q (of_table k.family gets) (table_of k.family gets) m)))
-        by_family true m = subst (λ (y : Prefix). change_at y (hop_at y k.entries) (hop_at y (near_in k.family k.routes k.entries)) ≡ change_at y (hop_at y (of_table k.family had)) (hop_at y (of_table k.family gets))) is (at q.bits)
+            ap (λ o. change_at q o (entry_hop_at q (near_in k.family k.routes k.entries))) (hop_none k.family q k.entries all m) ∙ (ap (change_at q None) (hop_none k.family q (near_in k.family k.routes k.entries) (table_of k.family (nearest (width k.family) (of_family k.family k.routes) (of_family k.family k.entries))) m)
+            ∙ sym (ap (λ o. change_at q o (entry_hop_at q (of_table k.family gets))) (hop_none k.family q (of_table k.family had) (table_of k.family had) m) ∙ ap (change_at q None) (hop_none k.family q (of_table k.family gets) (table_of k.family gets) m)))
+        by_family true m = subst (λ (y : Prefix). change_at y (entry_hop_at y k.entries) (entry_hop_at y (near_in k.family k.routes k.entries)) ≡ change_at y (entry_hop_at y (of_table k.family had)) (entry_hop_at y (of_table k.family gets))) is (at q.bits)
           where
             is : record { family = k.family; bits = q.bits } ≡ q
             is = ap (λ (g : Family). let y : Prefix = record { family = g; bits = q.bits } in y) (sym (same_family_is q.family k.family m))
 
-            at : (x : List Bool) → (let y : Prefix = record { family = k.family; bits = x } in change_at y (hop_at y k.entries) (hop_at y (near_in k.family k.routes k.entries)) ≡ change_at y (hop_at y (of_table k.family had)) (hop_at y (of_table k.family gets)))
+            at : (x : List Bool) → (let y : Prefix = record { family = k.family; bits = x } in change_at y (entry_hop_at y k.entries) (entry_hop_at y (near_in k.family k.routes k.entries)) ≡ change_at y (entry_hop_at y (of_table k.family had)) (entry_hop_at y (of_table k.family gets)))
             at x =
                 let y : Prefix = record { family = k.family; bits = x } in
                 let U = nearest (width k.family) (of_family k.family k.routes) (of_family k.family k.entries) in
-                ap (λ o. change_at y o (hop_at y (near_in k.family k.routes k.entries))) (sym (family_hop k.family x k.entries))
+                ap (λ o. change_at y o (entry_hop_at y (near_in k.family k.routes k.entries))) (sym (family_hop k.family x k.entries))
                 ∙ (ap (change_at y (entry_at x (of_family k.family k.entries))) (table_hop k.family x U)
                 ∙ (both_change y (entry_at x (of_family k.family k.entries)) (entry_at x U) (entry_at x had) (entry_at x gets) (parts x)
-                ∙ (ap (λ o. change_at y o (entry_at x gets)) (sym (table_hop k.family x had)) ∙ ap (change_at y (hop_at y (of_table k.family had))) (sym (table_hop k.family x gets)))))
+                ∙ (ap (λ o. change_at y o (entry_at x gets)) (sym (table_hop k.family x had)) ∙ ap (change_at y (entry_hop_at y (of_table k.family had))) (sym (table_hop k.family x gets)))))
 
 -- ---- what the code tells
 
-pub turn_case : (s : Spot) (len : ℕ) (t : Turn) (gets o n : Option ℕ) (hop : ℕ) → t.prefix.len ≢ len → gets ≡ gets_at s t → BothOrNeither t.old gets o n → hop ≡ inherit gets t.inherited → TurnCase s len t o n hop
+pub turn_case : (s : Spot) (len : ℕ) (t : LastBlocked) (gets o n : Option ℕ) (hop : ℕ) → t.prefix.len ≢ len → gets ≡ gets_at s t → BothOrNeither t.old gets o n → hop ≡ inherit gets t.inherited → TurnCase s len t o n hop
 turn_case s len t gets o n hop x e b h = inr (x, subst (λ (z : Option ℕ). BothOrNeither t.old z o n) e b, h ∙ ap (λ z. inherit z t.inherited) e)
 
 pub bits_long : (p : code.Prefix) → length (prefix_as p).bits ≡ p.len
@@ -220,11 +220,11 @@ shorter p q n l = by_two (length (prefix_as q).bits) (length (prefix_as p).bits)
       | inr z ↦ let w : x ≡ y = omega (arith, z, l) in absurd (n w)
     ]
 
-pub fine_old : (s : Spot) (p : code.Prefix) (t : Turn) (o n : Option ℕ) (hop : ℕ) → t.prefix.len ≤ p.len → TurnCase s p.len t o n hop → Fine (prefix_as t.prefix).bits o (prefix_as p).bits
+pub fine_old : (s : Spot) (p : code.Prefix) (t : LastBlocked) (o n : Option ℕ) (hop : ℕ) → t.prefix.len ≤ p.len → TurnCase s p.len t o n hop → Fine (prefix_as t.prefix).bits o (prefix_as p).bits
 fine_old s p t o n hop l (inl x) = inl x.1
 fine_old s p t o n hop l (inr x) = inr (shorter p t.prefix x.0 l)
 
-pub fine_new : (s : Spot) (p : code.Prefix) (t : Turn) (o n : Option ℕ) (hop : ℕ) → t.prefix.len ≤ p.len → TurnCase s p.len t o n hop → Fine (prefix_as t.prefix).bits n (prefix_as p).bits
+pub fine_new : (s : Spot) (p : code.Prefix) (t : LastBlocked) (o n : Option ℕ) (hop : ℕ) → t.prefix.len ≤ p.len → TurnCase s p.len t o n hop → Fine (prefix_as t.prefix).bits n (prefix_as p).bits
 fine_new s p t o n hop l (inl x) = inl x.2
 fine_new s p t o n hop l (inr x) = inr (shorter p t.prefix x.0 l)
 
@@ -242,7 +242,7 @@ event_entries p d r o L Z n t f z =
 front_long : (r p : List Bool) → begins r p ≡ true → length r ≤ length p
 front_long r p b = let x = begins_rest r p b in omega (arith, ap length x.1, length-append r x.0)
 
-pub turn_short : (w : ℕ) (T : Table) (p : code.Prefix) (t : Turn) → (prefix_as t.prefix).bits ≡ turn (prefix_as p).bits w T → t.prefix.len ≤ p.len
+pub turn_short : (w : ℕ) (T : Table) (p : code.Prefix) (t : LastBlocked) → (prefix_as t.prefix).bits ≡ turn (prefix_as p).bits w T → t.prefix.len ≤ p.len
 turn_short w T p t e =
     omega (arith, bits_long p, bits_long t.prefix, ap length e, front_long (turn (prefix_as p).bits w T) (prefix_as p).bits (turn_on (prefix_as p).bits w T))
 
@@ -266,10 +266,10 @@ not_front p r l = by_test (begins p r) refl
     by_test false e = refl
     by_test true e = absurd (omega (arith, l, front_long p r e))
 
-module _ (k : Labels) (p : code.Prefix) (t : Turn) (s : Spot) (cs : List Change) (f : p.family ≡ k.family)
+module _ (k : Labels) (p : code.Prefix) (t : LastBlocked) (s : Spot) (cs : List Change) (f : p.family ≡ k.family)
     (i : InPlace k.entries) (all : AllByRecursion (λ (q : Prefix). q.family ≡ k.family) (keys_of k.entries))
     (y : AlikeBeside (width k.family) (prefix_as p).bits (of_family k.family k.routes) (of_family k.family k.entries))
-    (n : s.bits + p.len ≡ width k.family) (a : (x : List Bool) → answers_in s x ≡ answers (of_family k.family k.routes) (prefix_as p).bits x)
+    (n : s.bits + p.len ≡ width k.family) (a : (x : List Bool) → spot_answers s x ≡ answers (of_family k.family k.routes) (prefix_as p).bits x)
     (e : s.entries ≡ cut (prefix_as p).bits (of_family k.family k.entries))
     (r : (prefix_as t.prefix).bits ≡ turn (prefix_as p).bits (width k.family) (of_family k.family k.entries))
     (old : t.old ≡ entry_at (prefix_as t.prefix).bits (of_family k.family k.entries))
@@ -292,10 +292,10 @@ module _ (k : Labels) (p : code.Prefix) (t : Turn) (s : Spot) (cs : List Change)
   long : s.bits + length (prefix_as p).bits ≡ width k.family
   long = omega (arith, n, bits_long p)
 
-  set_is : inner_set s.bits (answers_in s) s.entries ≡ event_set w R P T
+  set_is : inner_set s.bits (spot_answers s) s.entries ≡ event_set w R P T
   set_is =
       let m : s.bits ≡ width k.family - length (prefix_as p).bits = omega (arith, long) in
-      (inner_alike s.bits (answers_in s) (answers R P) s.entries (λ x u. a x)).0
+      (inner_alike s.bits (spot_answers s) (answers R P) s.entries (λ x u. a x)).0
       ∙ (ap (λ d. inner_set d (answers R P) s.entries) m ∙ ap (inner_set (w - length P) (answers R P)) e)
 
   gets_is : gets_at s t ≡ turn_entry w R P T

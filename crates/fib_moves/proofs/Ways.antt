@@ -15,27 +15,27 @@ use Rattle.fib_addr.specs.declared.prefix.Prefix as code
 use Rattle.orig_tree.specs.Cover.{SomeGets}
 use Rattle.orig_tree.specs.Walk.{behind}
 use Rattle.orig_tree.specs.Spots.{EachFixed}
-use Rattle.orig_tree.specs.Views.{Fits}
+use Rattle.orig_tree.specs.Views.{FitsWidth}
 use Rattle.orig_tree.proofs.Paths.{no_bits, first_bit}
 use Rattle.table_model.proofs.BitLaws.{length-bits_of}
 use Rattle.fib_addr.proofs.Parts.{length_prefix}
 use Rattle.std.specs.Prelude.{is_some, ◌||◌}
 use Rattle.orig_tree.proofs.Telling.{half_longer}
-use Rattle.moves_event.specs.Way.{fills, is_blocked, turn, turn_by}
-use Rattle.moves_event.proofs.Entries.{above_nil}
-use Rattle.moves_event.proofs.Within.{covers_all, covers_not, above_below}
-use Rattle.moves_event.proofs.Loop.{turn_start, turn_step, turn_end}
+use Rattle.moves_model.specs.Way.{fills, is_blocked, turn, turn_by}
+use Rattle.moves_model.proofs.Entries.{above_nil}
+use Rattle.moves_model.proofs.Within.{covers_all, covers_not, above_below}
+use Rattle.moves_model.proofs.Loop.{turn_start, turn_step, turn_end}
 use Rattle.fib_moves.specs.declared.way.Way.{Way}
-use Rattle.fib_moves.specs.declared.way.Turn.{Turn}
+use Rattle.fib_moves.specs.declared.way.LastBlocked.{LastBlocked}
 use Rattle.fib_moves.specs.Ways.{turn_after, IsStep, IsWay, IsGone}
 
-pub filled_is : (b : Bool) (d : ℕ) (T : Table) → IsTable d T → (b ≡ true → Fits d T → EachFixed d T) → (b ≡ false → Fits d T → SomeGets d T None) → b ≡ fills d T
+pub filled_is : (b : Bool) (d : ℕ) (T : Table) → IsTable d T → (b ≡ true → FitsWidth d T → EachFixed d T) → (b ≡ false → FitsWidth d T → SomeGets d T None) → b ≡ fills d T
 filled_is true d T t x y = sym (covers_all d T (x refl t.1))
 filled_is false d T t x y = let z = y refl t.1 in sym (covers_not d T z.0 z.1 z.2)
 
 -- ---- one step
 
-record IsTurn (f : Family) (T : Table) (t : Turn) : Type 0 where
+record IsTurn (f : Family) (T : Table) (t : LastBlocked) : Type 0 where
   old : t.old ≡ entry_at (prefix_as t.prefix).bits T
   inherited : t.inherited ≡ above (prefix_as t.prefix).bits T 0
   family : t.prefix.family ≡ f
@@ -77,13 +77,13 @@ module _ (f : Family) (R T : Table) (q : List Bool) (b : Bool) (x y : Way) (w : 
   bits_is = omega (arith, longer, s.bits, w.bits)
 
   new_turn : IsTurn f T y.turn
-  new_turn = subst (λ (t : Turn). IsTurn f T t) (sym s.turn) (turned (is_blocked b y.place.region.bits x.place.region.entries))
+  new_turn = subst (λ (t : LastBlocked). IsTurn f T t) (sym s.turn) (turned (is_blocked b y.place.region.bits x.place.region.entries))
 
   turn_goes : (r : List Bool) (d : ℕ) → d + y.at.len ≡ width f → turn_by (q ++ (b ∷ [])) (prefix_as y.turn.prefix).bits r d (cut (q ++ (b ∷ [])) T) ≡ turn_by [] [] ((q ++ (b ∷ [])) ++ r) (width f) T
   turn_goes r d e =
       let n : y.place.region.bits ≡ d = omega (arith, e, bits_is) in
       let bits : (prefix_as y.turn.prefix).bits ≡ cond (is_blocked b d (cut q T)) (q ++ (b ∷ [])) (prefix_as x.turn.prefix).bits =
-      ap (λ (t : Turn). (prefix_as t.prefix).bits) s.turn
+      ap (λ (t : LastBlocked). (prefix_as t.prefix).bits) s.turn
       ∙ (turned_bits (is_blocked b y.place.region.bits x.place.region.entries)
       ∙ (ap (λ k. cond (is_blocked b k x.place.region.entries) (q ++ (b ∷ [])) (prefix_as x.turn.prefix).bits) n ∙ ap (λ L. cond (is_blocked b d L) (q ++ (b ∷ [])) (prefix_as x.turn.prefix).bits) w.entries)) in
       ap (λ z. turn_by (q ++ (b ∷ [])) z r d (cut (q ++ (b ∷ [])) T)) bits

@@ -14,7 +14,7 @@ use Rattle.table_model.specs.Regions.{entry_at, lift}
 use Rattle.table_model.specs.Sets.{answers}
 use Rattle.table_model.proofs.Both.{family_is}
 use Rattle.table_model.proofs.Region.{cut_lift}
-use Rattle.kept_model.specs.Between.{AreEntries, hop_at, change_at, between}
+use Rattle.kept_model.specs.Between.{AreEntries, entry_hop_at, change_at, between}
 use Rattle.kept_model.proofs.Alike.{alike_changes, placed_are}
 use Rattle.kept_model.proofs.Families.{hop_none, table_of}
 use Rattle.kept_model.proofs.Repairs.{table_entries}
@@ -24,24 +24,24 @@ use Rattle.cert_model.specs.Rows.{CertRow, bound_row, whole_prefix}
 use Rattle.fib_addr.specs.Views.{prefix_as, entry_as}
 use Rattle.fib_addr.specs.declared.prefix.Prefix as code
 use Rattle.orig_tree.specs.Views.{Labels, InPlace}
-use Rattle.orig_tree.specs.Spots.{Spot, answers_in}
+use Rattle.orig_tree.specs.Spots.{Spot, spot_answers}
 use Rattle.orig_tree.specs.Walk.{Walks, behind}
 use Rattle.orig_tree.proofs.Telling.{whole_len}
 use Rattle.moves_model.specs.Sets.{Allowed, is_allowed, set_over, k_over, inner_set, inner_k, near_set, near_k, near_of}
 use Rattle.moves_model.specs.Nearest.{nearest, near_bound}
-use Rattle.moves_cert.specs.Demands.{change_bound}
-use Rattle.moves_cert.specs.Shortest.{AreProvedShortest, AreShortest}
-use Rattle.moves_cert.specs.Rows.{near_region_rows, near_rows, near_in}
-use Rattle.moves_cert.proofs.Regions.{inner_alike}
-use Rattle.moves_cert.proofs.Whole.{near_entries, near_count, near_shortest, are_shortest}
+use Rattle.moves_model.specs.Demands.{change_bound}
+use Rattle.moves_model.specs.Shortest.{AreProvedShortest, AreShortest}
+use Rattle.moves_model.specs.Rows.{near_region_rows, near_rows, near_in}
+use Rattle.moves_model.proofs.Regions.{inner_alike}
+use Rattle.moves_model.proofs.Whole.{near_entries, near_count, near_shortest, are_shortest}
 use Rattle.fib_moves.specs.declared.place.Place.{Place}
 use Rattle.fib_moves.specs.declared.down.Differing.{Differing}
 use Rattle.fib_moves.specs.Needs.{IsNodeOf}
 use Rattle.fib_moves.specs.Passes.{ListsDiffering, ListsChanges}
 use Rattle.fib_moves.proofs.Passing.{near_alike}
 use Rattle.fib_moves.proofs.Proving.{rows_alike}
-use Rattle.allowed_hops.specs.Views.{SameAllowed}
-use Rattle.allowed_hops.proofs.Same.{same_allowed}
+use Rattle.fib_moves.specs.Views.{SameAllowed}
+use Rattle.fib_moves.proofs.Same.{same_allowed}
 
 -- ---- the bound
 
@@ -78,7 +78,7 @@ pass_told p s h a b cs e z x y v c = record {
       ∙ ap (between (of_table p.family v.had)) (v.new ∙ (ap (λ L. L ++ of_table p.family (lift (prefix_as p).bits v.gets)) y ∙ whole_told p v.gets e)));
   had_table = v.had_table;
   gets_table = v.gets_table;
-  part = subst (λ (g : ℕ). ArePart s.entries (near_of s.bits (answers_in s) s.entries g) v.had v.gets) z v.part;
+  part = subst (λ (g : ℕ). ArePart s.entries (near_of s.bits (spot_answers s) s.entries g) v.had v.gets) z v.part;
 }
 
 no_change : (p : Prefix) (o : Option ℕ) → change_at p o o ≡ []
@@ -91,7 +91,7 @@ both_change p a b c d (inr x) = ap (change_at p a) (sym x.2) ∙ (no_change p a 
 
 -- ---- the region of the whole space
 
-module _ (k : Labels) (p : code.Prefix) (s : Spot) (e : prefix_as p ≡ whole_prefix k.family) (n : s.bits + p.len ≡ width k.family) (a : (x : List Bool) → answers_in s x ≡ answers (of_family k.family k.routes) (prefix_as p).bits x)
+module _ (k : Labels) (p : code.Prefix) (s : Spot) (e : prefix_as p ≡ whole_prefix k.family) (n : s.bits + p.len ≡ width k.family) (a : (x : List Bool) → spot_answers s x ≡ answers (of_family k.family k.routes) (prefix_as p).bits x)
     (l : s.entries ≡ cut (prefix_as p).bits (of_family k.family k.entries)) (i : InPlace k.entries) (r : InPlace k.routes) (all : AllByRecursion (λ (q : Prefix). q.family ≡ k.family) (keys_of k.entries)) where
   abbrev w : ℕ
   w = width k.family
@@ -105,7 +105,7 @@ module _ (k : Labels) (p : code.Prefix) (s : Spot) (e : prefix_as p ≡ whole_pr
   bits_are : s.bits ≡ w
   bits_are = omega (arith, whole_len k.family p e, n)
 
-  answers_are : (x : List Bool) → answers_in s x ≡ answers R [] x
+  answers_are : (x : List Bool) → spot_answers s x ≡ answers R [] x
   answers_are x = a x ∙ ap (λ (q : Prefix). answers R q.bits x) e
 
   entries_are : s.entries ≡ T
@@ -123,31 +123,31 @@ module _ (k : Labels) (p : code.Prefix) (s : Spot) (e : prefix_as p ≡ whole_pr
     table = subst (λ (v : Spot). IsTable v.bits v.entries) (sym x) spot_table;
   }
 
-  set_is : inner_set s.bits (answers_in s) s.entries ≡ inner_set w (answers R []) T
-  set_is = (inner_alike s.bits (answers_in s) (answers R []) s.entries (λ x u. answers_are x)).0 ∙ (ap (λ d. inner_set d (answers R []) s.entries) bits_are ∙ ap (inner_set w (answers R [])) entries_are)
+  set_is : inner_set s.bits (spot_answers s) s.entries ≡ inner_set w (answers R []) T
+  set_is = (inner_alike s.bits (spot_answers s) (answers R []) s.entries (λ x u. answers_are x)).0 ∙ (ap (λ d. inner_set d (answers R []) s.entries) bits_are ∙ ap (inner_set w (answers R [])) entries_are)
 
-  k_is : inner_k s.bits (answers_in s) s.entries ≡ inner_k w (answers R []) T
-  k_is = (inner_alike s.bits (answers_in s) (answers R []) s.entries (λ x u. answers_are x)).1 ∙ (ap (λ d. inner_k d (answers R []) s.entries) bits_are ∙ ap (inner_k w (answers R [])) entries_are)
+  k_is : inner_k s.bits (spot_answers s) s.entries ≡ inner_k w (answers R []) T
+  k_is = (inner_alike s.bits (spot_answers s) (answers R []) s.entries (λ x u. answers_are x)).1 ∙ (ap (λ d. inner_k d (answers R []) s.entries) bits_are ∙ ap (inner_k w (answers R [])) entries_are)
 
-  bounds : change_bound (near_set s.bits (answers_in s) s.entries) (near_k s.bits (answers_in s) s.entries) ≡ near_bound w R T
+  bounds : change_bound (near_set s.bits (spot_answers s) s.entries) (near_k s.bits (spot_answers s) s.entries) ≡ near_bound w R T
   bounds =
-      ap (λ L. change_bound (set_over (root L) (inner_set s.bits (answers_in s) s.entries)) (k_over (root L) (inner_set s.bits (answers_in s) s.entries) (inner_k s.bits (answers_in s) s.entries))) entries_are
-      ∙ (ap (λ S. change_bound (set_over (root T) S) (k_over (root T) S (inner_k s.bits (answers_in s) s.entries))) set_is
+      ap (λ L. change_bound (set_over (root L) (inner_set s.bits (spot_answers s) s.entries)) (k_over (root L) (inner_set s.bits (spot_answers s) s.entries) (inner_k s.bits (spot_answers s) s.entries))) entries_are
+      ∙ (ap (λ S. change_bound (set_over (root T) S) (k_over (root T) S (inner_k s.bits (spot_answers s) s.entries))) set_is
       ∙ ap (λ m. change_bound (near_set w (answers R []) T) (k_over (root T) (inner_set w (answers R []) T) m)) k_is)
 
-  pub bound_told : (m : ℕ) → m ≡ change_bound (near_set s.bits (answers_in s) s.entries) (near_k s.bits (answers_in s) s.entries) → m ≡ near_bound w R T
+  pub bound_told : (m : ℕ) → m ≡ change_bound (near_set s.bits (spot_answers s) s.entries) (near_k s.bits (spot_answers s) s.entries) → m ≡ near_bound w R T
   bound_told m x = x ∙ bounds
 
-  near_is : near_of s.bits (answers_in s) s.entries 0 ≡ nearest w R T
-  near_is = near_alike s.bits (answers_in s) (answers R []) s.entries 0 (λ x u. answers_are x) ∙ (ap (λ d. near_of d (answers R []) s.entries 0) bits_are ∙ ap (λ L. near_of w (answers R []) L 0) entries_are)
+  near_is : near_of s.bits (spot_answers s) s.entries 0 ≡ nearest w R T
+  near_is = near_alike s.bits (spot_answers s) (answers R []) s.entries 0 (λ x u. answers_are x) ∙ (ap (λ d. near_of d (answers R []) s.entries 0) bits_are ∙ ap (λ L. near_of w (answers R []) L 0) entries_are)
 
-  pub rows_told : (m : ℕ) (X Y Z : List CertRow) → X ≡ [] → Y ≡ X ++ near_region_rows s.bits (answers_in s) s.entries (prefix_as p) → Z ≡ Y ++ bound_row p.family m ∷ [] → m ≡ near_bound w R T → Z ≡ near_rows k.family k.routes k.entries
+  pub rows_told : (m : ℕ) (X Y Z : List CertRow) → X ≡ [] → Y ≡ X ++ near_region_rows s.bits (spot_answers s) s.entries (prefix_as p) → Z ≡ Y ++ bound_row p.family m ∷ [] → m ≡ near_bound w R T → Z ≡ near_rows k.family k.routes k.entries
   rows_told m X Y Z x y z b =
       let f : p.family ≡ k.family = ap (λ (q : Prefix). q.family) e in
-      let rows : near_region_rows s.bits (answers_in s) s.entries (prefix_as p) ≡ near_region_rows w (answers R []) T (whole_prefix k.family) =
-      rows_alike s.bits (answers_in s) (answers R []) s.entries (prefix_as p) (λ v u. answers_are v)
+      let rows : near_region_rows s.bits (spot_answers s) s.entries (prefix_as p) ≡ near_region_rows w (answers R []) T (whole_prefix k.family) =
+      rows_alike s.bits (spot_answers s) (answers R []) s.entries (prefix_as p) (λ v u. answers_are v)
       ∙ (ap (λ d. near_region_rows d (answers R []) s.entries (prefix_as p)) bits_are ∙ (ap (λ L. near_region_rows w (answers R []) L (prefix_as p)) entries_are ∙ ap (near_region_rows w (answers R []) T) e)) in
-      z ∙ (ap (λ v. v ++ bound_row p.family m ∷ []) (y ∙ (ap (λ v. v ++ near_region_rows s.bits (answers_in s) s.entries (prefix_as p)) x ∙ rows))
+      z ∙ (ap (λ v. v ++ bound_row p.family m ∷ []) (y ∙ (ap (λ v. v ++ near_region_rows s.bits (spot_answers s) s.entries (prefix_as p)) x ∙ rows))
       ∙ (ap (λ g. near_region_rows w (answers R []) T (whole_prefix k.family) ++ bound_row g m ∷ []) f ∙ ap (λ v. near_region_rows w (answers R []) T (whole_prefix k.family) ++ bound_row k.family v ∷ []) b))
 
   abbrev N : Entries
@@ -163,28 +163,28 @@ module _ (k : Labels) (p : code.Prefix) (s : Spot) (e : prefix_as p ≡ whole_pr
     parts : ArePart T (nearest w R T) v.had v.gets
     parts = subst (λ (L : Table). ArePart L (nearest w R T) v.had v.gets) entries_are (subst (λ (A : Table). ArePart s.entries A v.had v.gets) near_is v.part)
 
-    one_change : (q : Prefix) → change_at q (hop_at q k.entries) (hop_at q N) ≡ change_at q (hop_at q (of_table k.family v.had)) (hop_at q (of_table k.family v.gets))
+    one_change : (q : Prefix) → change_at q (entry_hop_at q k.entries) (entry_hop_at q N) ≡ change_at q (entry_hop_at q (of_table k.family v.had)) (entry_hop_at q (of_table k.family v.gets))
     one_change q = by_family (same_family q.family k.family) refl
       where
         f : Family
         f = k.family
 
-        by_family : (b : Bool) → same_family q.family f ≡ b → change_at q (hop_at q k.entries) (hop_at q N) ≡ change_at q (hop_at q (of_table f v.had)) (hop_at q (of_table f v.gets))
+        by_family : (b : Bool) → same_family q.family f ≡ b → change_at q (entry_hop_at q k.entries) (entry_hop_at q N) ≡ change_at q (entry_hop_at q (of_table f v.had)) (entry_hop_at q (of_table f v.gets))
         by_family false m =
-            ap (λ o. change_at q o (hop_at q N)) (hop_none f q k.entries all m) ∙ (ap (change_at q None) (hop_none f q N (table_of f (nearest w R T)) m)
-            ∙ sym (ap (λ o. change_at q o (hop_at q (of_table f v.gets))) (hop_none f q (of_table f v.had) (table_of f v.had) m) ∙ ap (change_at q None) (hop_none f q (of_table f v.gets) (table_of f v.gets) m)))
-        by_family true m = subst (λ (y : Prefix). change_at y (hop_at y k.entries) (hop_at y N) ≡ change_at y (hop_at y (of_table f v.had)) (hop_at y (of_table f v.gets))) is (at q.bits)
+            ap (λ o. change_at q o (entry_hop_at q N)) (hop_none f q k.entries all m) ∙ (ap (change_at q None) (hop_none f q N (table_of f (nearest w R T)) m)
+            ∙ sym (ap (λ o. change_at q o (entry_hop_at q (of_table f v.gets))) (hop_none f q (of_table f v.had) (table_of f v.had) m) ∙ ap (change_at q None) (hop_none f q (of_table f v.gets) (table_of f v.gets) m)))
+        by_family true m = subst (λ (y : Prefix). change_at y (entry_hop_at y k.entries) (entry_hop_at y N) ≡ change_at y (entry_hop_at y (of_table f v.had)) (entry_hop_at y (of_table f v.gets))) is (at q.bits)
           where
             is : record { family = f; bits = q.bits } ≡ q
             is = ap (λ (g : Family). let y : Prefix = record { family = g; bits = q.bits } in y) (sym (same_family_is q.family f m))
 
-            at : (x : List Bool) → (let y : Prefix = record { family = f; bits = x } in change_at y (hop_at y k.entries) (hop_at y N) ≡ change_at y (hop_at y (of_table f v.had)) (hop_at y (of_table f v.gets)))
+            at : (x : List Bool) → (let y : Prefix = record { family = f; bits = x } in change_at y (entry_hop_at y k.entries) (entry_hop_at y N) ≡ change_at y (entry_hop_at y (of_table f v.had)) (entry_hop_at y (of_table f v.gets)))
             at x =
                 let y : Prefix = record { family = f; bits = x } in
-                ap (λ o. change_at y o (hop_at y N)) (sym (family_hop f x k.entries))
+                ap (λ o. change_at y o (entry_hop_at y N)) (sym (family_hop f x k.entries))
                 ∙ (ap (change_at y (entry_at x T)) (table_hop f x (nearest w R T))
                 ∙ (both_change y (entry_at x T) (entry_at x (nearest w R T)) (entry_at x v.had) (entry_at x v.gets) (parts x)
-                ∙ (ap (λ o. change_at y o (entry_at x v.gets)) (sym (table_hop f x v.had)) ∙ ap (change_at y (hop_at y (of_table f v.had))) (sym (table_hop f x v.gets)))))
+                ∙ (ap (λ o. change_at y o (entry_at x v.gets)) (sym (table_hop f x v.had)) ∙ ap (change_at y (entry_hop_at y (of_table f v.had))) (sym (table_hop f x v.gets)))))
 
     pub changes_told : cs ≡ between k.entries N
     changes_told =

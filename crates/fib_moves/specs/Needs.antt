@@ -4,15 +4,15 @@ use Rattle.std.specs.Box.{box_value}
 use Rattle.std.specs.declared.alloc.Global.{Global}
 use Rattle.table_model.specs.Table.{Table, IsTable, half}
 use Rattle.table_model.specs.Sets.{side}
-use Rattle.orig_tree.specs.Spots.{Spot, answers_in}
+use Rattle.orig_tree.specs.Spots.{Spot, spot_answers}
 use Rattle.orig_tree.specs.Walk.{behind}
 use Rattle.moves_model.specs.Sets.{allowed_by_both, gap, inner_set, inner_k, near_set, near_k}
-use Rattle.moves_cert.specs.Demands.{is_bare}
-use Rattle.allowed_hops.specs.declared.allowed.AllowedHops.{AllowedHops}
+use Rattle.moves_model.specs.Demands.{is_bare}
+use Rattle.fib_moves.specs.declared.allowed.AllowedHops.{AllowedHops}
 use Rattle.fib_moves.specs.declared.needs.RegionNeeds.{RegionNeeds}
 use Rattle.fib_moves.specs.declared.needs.RegionNeeds.TheViews.{out-RegionNeeds}
 use Rattle.fib_moves.specs.declared.place.Place.{Place}
-use Rattle.allowed_hops.specs.Views.{SameAllowed, allowed_as}
+use Rattle.fib_moves.specs.Views.{SameAllowed, allowed_as}
 
 -- Of a region of d more bits with the answers f and the old entries T nothing is kept if none stands strictly within it; else the hops
 -- that its own entry should have, and how many changes are needed within it then, and so on in its halves.
@@ -41,10 +41,10 @@ IsBoxed hops k low high b = ((out-RegionNeeds (box_value b)).hops ≡ hops) × (
 abbrev pub IsJoined : Spot → Spot → Option (Box RegionNeeds Global) → Type 0
 IsJoined low high None = (low.entries ≡ []) × (high.entries ≡ [])
 IsJoined low high (Some b) =
-    (low.entries ≡ [] → high.entries ≡ [] → ⊥) × SameAllowed (allowed_as (out-RegionNeeds (box_value b)).hops) (allowed_by_both (near_set low.bits (answers_in low) low.entries) (near_set high.bits (answers_in high) high.entries))
-    × ((out-RegionNeeds (box_value b)).k ≡ near_k low.bits (answers_in low) low.entries + near_k high.bits (answers_in high) high.entries
-    + gap (near_set low.bits (answers_in low) low.entries) (near_set high.bits (answers_in high) high.entries))
-    × Knows low.bits (answers_in low) low.entries (out-RegionNeeds (box_value b)).low × Knows high.bits (answers_in high) high.entries (out-RegionNeeds (box_value b)).high
+    (low.entries ≡ [] → high.entries ≡ [] → ⊥) × SameAllowed (allowed_as (out-RegionNeeds (box_value b)).hops) (allowed_by_both (near_set low.bits (spot_answers low) low.entries) (near_set high.bits (spot_answers high) high.entries))
+    × ((out-RegionNeeds (box_value b)).k ≡ near_k low.bits (spot_answers low) low.entries + near_k high.bits (spot_answers high) high.entries
+    + gap (near_set low.bits (spot_answers low) low.entries) (near_set high.bits (spot_answers high) high.entries))
+    × Knows low.bits (spot_answers low) low.entries (out-RegionNeeds (box_value b)).low × Knows high.bits (spot_answers high) high.entries (out-RegionNeeds (box_value b)).high
 
 -- the place's node is its region's
 pub record IsNodeOf (p : Place) : Type 0 where

@@ -9,7 +9,7 @@ use Rattle.table_model.specs.declared.family.Family.{Family}
 use Rattle.table_model.specs.Changes.{Change}
 use Rattle.kept_model.specs.Between.{between}
 use Rattle.fib_addr.specs.Views.{entry_as}
-use Rattle.orig_tree.specs.Spots.{Spot, answers_in}
+use Rattle.orig_tree.specs.Spots.{Spot, spot_answers}
 use Rattle.moves_model.specs.Sets.{near_of}
 use Rattle.fib_moves.specs.declared.down.Differing.{Differing}
 
@@ -25,7 +25,7 @@ pub record ListsDiffering (p : Prefix) (s : Spot) (h : ℕ) (before after : Diff
   pub new : map entry_as after.gets.items ≡ map entry_as before.gets.items ++ of_table p.family (lift p.bits gets)
   pub had_table : IsTable s.bits had
   pub gets_table : IsTable s.bits gets
-  pub part : ArePart s.entries (near_of s.bits (answers_in s) s.entries h) had gets
+  pub part : ArePart s.entries (near_of s.bits (spot_answers s) s.entries h) had gets
 
 -- the changes of the whole space: those between two lists that have what the old table and the pass have where these differ
 pub record ListsChanges (f : Family) (s : Spot) (changes : List Change) : Type 0 where
@@ -34,4 +34,4 @@ pub record ListsChanges (f : Family) (s : Spot) (changes : List Change) : Type 0
   pub told : changes ≡ between (of_table f had) (of_table f gets)
   pub had_table : IsTable s.bits had
   pub gets_table : IsTable s.bits gets
-  pub part : ArePart s.entries (near_of s.bits (answers_in s) s.entries 0) had gets
+  pub part : ArePart s.entries (near_of s.bits (spot_answers s) s.entries 0) had gets

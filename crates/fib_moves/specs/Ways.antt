@@ -7,13 +7,13 @@ use Rattle.table_model.specs.Table.{Table, root, half, inherit, cut}
 use Rattle.table_model.specs.Regions.{entry_at, above}
 use Rattle.fib_addr.specs.Views.{prefix_as}
 use Rattle.orig_tree.specs.Walk.{behind}
-use Rattle.moves_event.specs.Way.{is_blocked, turn_by}
+use Rattle.moves_model.specs.Way.{is_blocked, turn_by}
 use Rattle.fib_moves.specs.Needs.{IsNodeOf}
 use Rattle.fib_moves.specs.declared.way.Way.{Way}
-use Rattle.fib_moves.specs.declared.way.Turn.{Turn}
+use Rattle.fib_moves.specs.declared.way.LastBlocked.{LastBlocked}
 
 -- the turn after a step to y's prefix
-abbrev pub turn_after : Bool → Bool → Way → Way → Turn
+abbrev pub turn_after : Bool → Bool → Way → Way → LastBlocked
 turn_after bit true x y = record { prefix = y.at; old = root y.place.region.entries; inherited = y.comes }
 turn_after bit false x y = x.turn
 

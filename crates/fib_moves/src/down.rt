@@ -6,15 +6,15 @@ ghost use Rattle.table_model.specs.Width.{width};
 ghost use Rattle.table_model.specs.Table.{IsTable, inherit};
 ghost use Rattle.kept_model.specs.Parts.{BothOrNeither};
 ghost use Rattle.fib_addr.specs.Views.{prefix_as};
-ghost use Rattle.orig_tree.specs.Spots.{answers_in};
+ghost use Rattle.orig_tree.specs.Spots.{spot_answers};
 ghost use Rattle.fib_moves.specs.Needs.{Knows, AreFound};
 ghost use Rattle.fib_moves.specs.Passes.{EndsThere, ListsDiffering};
 
+use crate::AllowedHops;
 use crate::hops::due_hop;
 use crate::needs::{RegionNeeds, half_of, hops_of};
-use allowed_hops::AllowedHops;
 use fib_addr::{Entry, Prefix, push_entry};
-use orig_tree::Region;
+use orig_tree::TreeRegion;
 use std::alloc::AllocError;
 
 /// The entries of the old table and of the new one at the prefixes at which these differ, in the order of prefixes.
@@ -41,13 +41,13 @@ pub fn below(hop: Option<u16>, inherited: u16) -> u16
 }
 
 /// Whether neither table has entries in the region below its own prefix, by the hops that were found for its own entry, if any were.
-pub fn is_end(region: &Region<'_>, found: Option<&AllowedHops>, prefix: Prefix) -> bool
+pub fn is_end(region: &TreeRegion<'_>, found: Option<&AllowedHops>, prefix: Prefix) -> bool
     requires bits { region.now.bits + prefix.len ≡ width prefix.family }
     requires table { IsTable region.now.bits region.now.entries }
-    requires found { AreFound region.now.bits (answers_in region.now) region.now.entries
+    requires found { AreFound region.now.bits (spot_answers region.now) region.now.entries
         (option_copied found) }
     ensures end { result ≡ true
-        → EndsThere region.now.bits (answers_in region.now) region.now.entries }
+        → EndsThere region.now.bits (spot_answers region.now) region.now.entries }
     ensures more { result ≡ false → region.now.bits ≢ 0 }
 {
     if prefix.len == prefix.family.width() {
@@ -61,7 +61,7 @@ pub fn is_end(region: &Region<'_>, found: Option<&AllowedHops>, prefix: Prefix) 
 
 /// Adds the entries of both tables within a prefix where they differ.
 pub(crate) fn list_differing(
-    region: &Region<'_>,
+    region: &TreeRegion<'_>,
     needs: &Option<Box<RegionNeeds>>,
     prefix: Prefix,
     inherited: u16,
@@ -69,7 +69,7 @@ pub(crate) fn list_differing(
 ) -> Result<(), AllocError>
     requires bits { region.now.bits + prefix.len ≡ width prefix.family }
     requires table { IsTable region.now.bits region.now.entries }
-    requires knows { Knows region.now.bits (answers_in region.now) region.now.entries needs.now }
+    requires knows { Knows region.now.bits (spot_answers region.now) region.now.entries needs.now }
     ensures { OnOk result (ListsDiffering (prefix_as prefix) region.now inherited out.old out.new) }
 {
     let had = region.entry();

@@ -8,22 +8,22 @@ ghost use Rattle.table_model.specs.Entries.{of_family};
 ghost use Rattle.kept_model.specs.Between.{between};
 ghost use Rattle.fib_addr.specs.Views.{prefix_as};
 ghost use Rattle.fib_delta.specs.Views.{change_as};
-ghost use Rattle.orig_tree.specs.Spots.{answers_in};
-ghost use Rattle.moves_cert.specs.Rows.{near_in};
-ghost use Rattle.moves_cert.specs.Shortest.{AreShortest};
-ghost use Rattle.moves_event.specs.Way.{AlikeBeside};
+ghost use Rattle.orig_tree.specs.Spots.{spot_answers};
+ghost use Rattle.moves_model.specs.Rows.{near_in};
+ghost use Rattle.moves_model.specs.Shortest.{AreShortest};
+ghost use Rattle.moves_model.specs.Way.{AlikeBeside};
 ghost use Rattle.fib_moves.specs.Needs.{Knows, AreFound};
 ghost use Rattle.fib_moves.specs.Turns.{IsTurned, AreTurned};
 
+use crate::AllowedHops;
 use crate::down::{Differing, below, if_differing, list_differing};
 use crate::hops::due_hop;
 use crate::needs::{RegionNeeds, climb, hops_of};
 use crate::place::Place;
-use crate::way::{Turn, walk};
-use allowed_hops::AllowedHops;
+use crate::way::{LastBlocked, walk};
 use fib_addr::{Prefix, push_entry};
 use fib_delta::{Change, between};
-use orig_tree::{Region, Tree};
+use orig_tree::{Tree, TreeRegion};
 use std::alloc::{AllocError, Global};
 
 /// Adds the turn's entries in both tables if they differ, where it isn't the event's prefix itself, whose length and region these
@@ -33,13 +33,13 @@ use std::alloc::{AllocError, Global};
 ///
 /// No memory.
 pub fn list_turn(
-    region: &Region<'_>,
+    region: &TreeRegion<'_>,
     found: Option<&AllowedHops>,
     len: u8,
-    turn: &Turn,
+    turn: &LastBlocked,
     out: &mut Differing,
 ) -> Result<u16, AllocError>
-    requires { AreFound region.now.bits (answers_in region.now) region.now.entries (option_copied found) }
+    requires { AreFound region.now.bits (spot_answers region.now) region.now.entries (option_copied found) }
     ensures { IfOk result (λ hop. IsTurned region.now len turn.now out.old out.new hop) }
 {
     if turn.prefix.len == len {
@@ -55,14 +55,14 @@ pub fn list_turn(
 /// The changes at the turn and within the event's prefix.
 fn list_event(
     alloc: Global,
-    region: &Region<'_>,
+    region: &TreeRegion<'_>,
     needs: &Option<Box<RegionNeeds>>,
     prefix: Prefix,
-    turn: &Turn,
+    turn: &LastBlocked,
 ) -> Result<Vec<Change>, AllocError>
     requires bits { region.now.bits + prefix.len ≡ width prefix.family }
     requires table { IsTable region.now.bits region.now.entries }
-    requires knows { Knows region.now.bits (answers_in region.now) region.now.entries needs.now }
+    requires knows { Knows region.now.bits (spot_answers region.now) region.now.entries needs.now }
     requires family { turn.now.prefix.family ≡ prefix.family }
     requires within { turn.now.prefix.len ≤ prefix.len }
     ensures { IfOk result (λ v. AreTurned region.now prefix turn.now (map change_as v.items)) }

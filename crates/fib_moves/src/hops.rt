@@ -4,19 +4,19 @@
 
 ghost use Rattle.std.specs.Prelude.{◌≡◌, None, IfOk};
 ghost use Rattle.std.specs.Option.{option_copied};
-ghost use Rattle.orig_tree.specs.Spots.{answers_in};
+ghost use Rattle.orig_tree.specs.Spots.{spot_answers};
 ghost use Rattle.moves_model.specs.Sets.{is_allowed, least_allowed, inner_set, near_set, new_entry};
-ghost use Rattle.allowed_hops.specs.Views.{SameAllowed, allowed_as};
+ghost use Rattle.fib_moves.specs.Views.{SameAllowed, allowed_as};
 ghost use Rattle.fib_moves.specs.Needs.{AreFound};
 
-use allowed_hops::AllowedHops;
-use orig_tree::Region;
+use crate::AllowedHops;
+use orig_tree::TreeRegion;
 use std::alloc::{AllocError, Global};
 
 /// Whether a hop is one of them.
-pub(crate) fn allows(region: &Region<'_>, found: Option<&AllowedHops>, hop: u16) -> bool
-    requires { AreFound region.now.bits (answers_in region.now) region.now.entries (option_copied found) }
-    ensures { result ≡ is_allowed hop (inner_set region.now.bits (answers_in region.now) region.now.entries) }
+pub(crate) fn allows(region: &TreeRegion<'_>, found: Option<&AllowedHops>, hop: u16) -> bool
+    requires { AreFound region.now.bits (spot_answers region.now) region.now.entries (option_copied found) }
+    ensures { result ≡ is_allowed hop (inner_set region.now.bits (spot_answers region.now) region.now.entries) }
 {
     match found {
         Some(hops) => hops.contains(hop),
@@ -25,9 +25,9 @@ pub(crate) fn allows(region: &Region<'_>, found: Option<&AllowedHops>, hop: u16)
 }
 
 /// The least of them, if not any will do.
-pub(crate) fn least_hop(region: &Region<'_>, found: Option<&AllowedHops>) -> u16
-    requires { AreFound region.now.bits (answers_in region.now) region.now.entries (option_copied found) }
-    ensures { result ≡ least_allowed (inner_set region.now.bits (answers_in region.now) region.now.entries) }
+pub(crate) fn least_hop(region: &TreeRegion<'_>, found: Option<&AllowedHops>) -> u16
+    requires { AreFound region.now.bits (spot_answers region.now) region.now.entries (option_copied found) }
+    ensures { result ≡ least_allowed (inner_set region.now.bits (spot_answers region.now) region.now.entries) }
 {
     match found {
         Some(hops) => hops.least(),
@@ -38,12 +38,12 @@ pub(crate) fn least_hop(region: &Region<'_>, found: Option<&AllowedHops>) -> u16
 /// All of them.
 fn due_hops(
     alloc: Global,
-    region: &Region<'_>,
+    region: &TreeRegion<'_>,
     found: Option<&AllowedHops>,
 ) -> Result<AllowedHops, AllocError>
-    requires { AreFound region.now.bits (answers_in region.now) region.now.entries (option_copied found) }
+    requires { AreFound region.now.bits (spot_answers region.now) region.now.entries (option_copied found) }
     ensures { IfOk result (λ w. SameAllowed (allowed_as w)
-        (inner_set region.now.bits (answers_in region.now) region.now.entries)) }
+        (inner_set region.now.bits (spot_answers region.now) region.now.entries)) }
 {
     match found {
         Some(hops) => hops.copied(alloc),
@@ -61,12 +61,12 @@ fn due_hops(
 /// No memory.
 pub fn may_inherit(
     alloc: Global,
-    region: &Region<'_>,
+    region: &TreeRegion<'_>,
     found: Option<&AllowedHops>,
 ) -> Result<AllowedHops, AllocError>
-    requires { AreFound region.now.bits (answers_in region.now) region.now.entries (option_copied found) }
+    requires { AreFound region.now.bits (spot_answers region.now) region.now.entries (option_copied found) }
     ensures { IfOk result (λ w. SameAllowed (allowed_as w)
-        (near_set region.now.bits (answers_in region.now) region.now.entries)) }
+        (near_set region.now.bits (spot_answers region.now) region.now.entries)) }
 {
     match region.entry() {
         Some(_) => Ok(AllowedHops::Any),
@@ -75,9 +75,9 @@ pub fn may_inherit(
 }
 
 /// The hop of a new entry where none stood, or where that one can't stay: none if what is inherited will do, else the least hop.
-fn put_hop(region: &Region<'_>, found: Option<&AllowedHops>, inherited: u16) -> Option<u16>
-    requires { AreFound region.now.bits (answers_in region.now) region.now.entries (option_copied found) }
-    ensures { result ≡ new_entry (inner_set region.now.bits (answers_in region.now)
+fn put_hop(region: &TreeRegion<'_>, found: Option<&AllowedHops>, inherited: u16) -> Option<u16>
+    requires { AreFound region.now.bits (spot_answers region.now) region.now.entries (option_copied found) }
+    ensures { result ≡ new_entry (inner_set region.now.bits (spot_answers region.now)
         region.now.entries) None inherited }
 {
     if allows(region, found, inherited) {
@@ -90,13 +90,13 @@ fn put_hop(region: &Region<'_>, found: Option<&AllowedHops>, inherited: u16) -> 
 /// The hop of a new entry, if there is to be one, by the hops that were found for the region: the old one stays if its hop will do;
 /// else it goes if what is inherited will do; else it gets the least hop.
 pub fn due_hop(
-    region: &Region<'_>,
+    region: &TreeRegion<'_>,
     found: Option<&AllowedHops>,
     old: Option<u16>,
     inherited: u16,
 ) -> Option<u16>
-    requires { AreFound region.now.bits (answers_in region.now) region.now.entries (option_copied found) }
-    ensures { result ≡ new_entry (inner_set region.now.bits (answers_in region.now)
+    requires { AreFound region.now.bits (spot_answers region.now) region.now.entries (option_copied found) }
+    ensures { result ≡ new_entry (inner_set region.now.bits (spot_answers region.now)
         region.now.entries) old inherited }
 {
     match old {

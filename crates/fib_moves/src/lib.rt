@@ -10,9 +10,15 @@
 //! inherit (`may_inherit`), what its entry becomes (`due_hop`), and the entries that differ (`Differing`).
 #![tactic(auto)]
 
+mod after_event;
+mod allowed;
 mod answer;
+mod before;
+mod changes;
 mod down;
 mod event;
+mod event_down;
+mod found;
 mod hops;
 mod needs;
 mod place;
@@ -20,10 +26,14 @@ mod rows;
 mod shortest;
 mod way;
 
+pub use after_event::near_after;
+pub use allowed::{AllowedHops, JointAllowed};
 pub use answer::Near;
+pub use before::route_law;
+pub use changes::{one_more_if, sum};
 pub use down::{Differing, below, if_differing, is_end};
 pub use event::{list_turn, near_at};
 pub use hops::{due_hop, may_inherit};
 pub use place::Place;
 pub use shortest::near;
-pub use way::{Turn, Way, is_filled, walk};
+pub use way::{LastBlocked, Way, is_filled, walk};

@@ -7,15 +7,15 @@ ghost use Rattle.std.specs.Prelude.{◌≡◌, ◌+◌, ◌≢◌, [], true, fal
 ghost use Rattle.std.specs.Option.{option_copied};
 ghost use Rattle.table_model.specs.Width.{width};
 ghost use Rattle.table_model.specs.Table.{Table};
-ghost use Rattle.orig_tree.specs.Spots.{answers_in};
+ghost use Rattle.orig_tree.specs.Spots.{spot_answers};
 ghost use Rattle.moves_model.specs.Sets.{inner_k, near_k};
 ghost use Rattle.fib_moves.specs.Needs.{Knows, AreFound, IsBoxed, IsJoined, IsNodeOf, half_needs};
 
 use crate::hops::{allows, may_inherit};
 use crate::place::Place;
-use allowed_hops::{AllowedHops, one_more_if, sum};
+use crate::{AllowedHops, one_more_if, sum};
 use fib_addr::Prefix;
-use orig_tree::Region;
+use orig_tree::TreeRegion;
 use std::alloc::{AllocError, Global};
 
 /// What a region needs that has old entries strictly within it.
@@ -41,9 +41,9 @@ pub(crate) fn hops_of(needs: &Option<Box<RegionNeeds>>) -> Option<&AllowedHops>
 }
 
 /// How many changes strictly within a region are needed, if it gets one of its hops.
-fn changes_within(region: &Region<'_>, needs: &Option<Box<RegionNeeds>>) -> u64
-    requires { Knows region.now.bits (answers_in region.now) region.now.entries needs.now }
-    ensures { result ≡ inner_k region.now.bits (answers_in region.now) region.now.entries }
+fn changes_within(region: &TreeRegion<'_>, needs: &Option<Box<RegionNeeds>>) -> u64
+    requires { Knows region.now.bits (spot_answers region.now) region.now.entries needs.now }
+    ensures { result ≡ inner_k region.now.bits (spot_answers region.now) region.now.entries }
 {
     match needs {
         Some(needs) => needs.k,
@@ -53,11 +53,11 @@ fn changes_within(region: &Region<'_>, needs: &Option<Box<RegionNeeds>>) -> u64
 
 /// How many changes a region needs if it inherits one of the hops that it may.
 pub(crate) fn changes_of(
-    region: &Region<'_>,
+    region: &TreeRegion<'_>,
     needs: &Option<Box<RegionNeeds>>,
 ) -> Result<u64, AllocError>
-    requires { Knows region.now.bits (answers_in region.now) region.now.entries needs.now }
-    ensures { IfOk result (λ k. k ≡ near_k region.now.bits (answers_in region.now) region.now.entries) }
+    requires { Knows region.now.bits (spot_answers region.now) region.now.entries needs.now }
+    ensures { IfOk result (λ k. k ≡ near_k region.now.bits (spot_answers region.now) region.now.entries) }
 {
     let k = changes_within(region, needs);
     match region.entry() {
@@ -67,8 +67,8 @@ pub(crate) fn changes_of(
 }
 
 /// Whether no old entry stands in a region, its own prefix counted.
-fn has_none(region: &Region<'_>, needs: &Option<Box<RegionNeeds>>) -> bool
-    requires { Knows region.now.bits (answers_in region.now) region.now.entries needs.now }
+fn has_none(region: &TreeRegion<'_>, needs: &Option<Box<RegionNeeds>>) -> bool
+    requires { Knows region.now.bits (spot_answers region.now) region.now.entries needs.now }
     ensures none { result ≡ true → region.now.entries ≡ [] }
     ensures some { result ≡ false → region.now.entries ≢ [] }
 {
@@ -80,13 +80,13 @@ fn has_none(region: &Region<'_>, needs: &Option<Box<RegionNeeds>>) -> bool
 
 /// Whether none stands in either half.
 fn are_none(
-    low: &Region<'_>,
-    high: &Region<'_>,
+    low: &TreeRegion<'_>,
+    high: &TreeRegion<'_>,
     under_low: &Option<Box<RegionNeeds>>,
     under_high: &Option<Box<RegionNeeds>>,
 ) -> bool
-    requires low { Knows low.now.bits (answers_in low.now) low.now.entries under_low.now }
-    requires high { Knows high.now.bits (answers_in high.now) high.now.entries under_high.now }
+    requires low { Knows low.now.bits (spot_answers low.now) low.now.entries under_low.now }
+    requires high { Knows high.now.bits (spot_answers high.now) high.now.entries under_high.now }
     ensures none { result ≡ true → (low.now.entries ≡ []) × (high.now.entries ≡ []) }
     ensures some { result ≡ false → low.now.entries ≡ [] → high.now.entries ≡ [] → ⊥ }
 {
@@ -129,13 +129,13 @@ fn boxed(
 /// What a region needs that has old entries in its halves, from what these need.
 fn put_together(
     alloc: Global,
-    low: &Region<'_>,
-    high: &Region<'_>,
+    low: &TreeRegion<'_>,
+    high: &TreeRegion<'_>,
     under_low: Option<Box<RegionNeeds>>,
     under_high: Option<Box<RegionNeeds>>,
 ) -> Result<Box<RegionNeeds>, AllocError>
-    requires low { Knows low.now.bits (answers_in low.now) low.now.entries under_low }
-    requires high { Knows high.now.bits (answers_in high.now) high.now.entries under_high }
+    requires low { Knows low.now.bits (spot_answers low.now) low.now.entries under_low }
+    requires high { Knows high.now.bits (spot_answers high.now) high.now.entries under_high }
     requires some { low.now.entries ≡ [] → high.now.entries ≡ [] → ⊥ }
     ensures { IfOk result (λ b. IsJoined low.now high.now (Some b)) }
 {
@@ -152,13 +152,13 @@ fn put_together(
 /// What a region needs, from what its halves need, if an old entry stands in one.
 fn join(
     alloc: Global,
-    low: &Region<'_>,
-    high: &Region<'_>,
+    low: &TreeRegion<'_>,
+    high: &TreeRegion<'_>,
     under_low: Option<Box<RegionNeeds>>,
     under_high: Option<Box<RegionNeeds>>,
 ) -> Result<Option<Box<RegionNeeds>>, AllocError>
-    requires low { Knows low.now.bits (answers_in low.now) low.now.entries under_low }
-    requires high { Knows high.now.bits (answers_in high.now) high.now.entries under_high }
+    requires low { Knows low.now.bits (spot_answers low.now) low.now.entries under_low }
+    requires high { Knows high.now.bits (spot_answers high.now) high.now.entries under_high }
     ensures { IfOk result (IsJoined low.now high.now) }
 {
     if are_none(low, high, &under_low, &under_high) {
@@ -176,7 +176,7 @@ pub(crate) fn climb(
 ) -> Result<Option<Box<RegionNeeds>>, AllocError>
     requires bits { place.now.region.bits + prefix.now.len ≡ width prefix.now.family }
     requires place { IsNodeOf place.now }
-    ensures { IfOk result (Knows place.now.region.bits (answers_in place.now.region)
+    ensures { IfOk result (Knows place.now.region.bits (spot_answers place.now.region)
         place.now.region.entries) }
 {
     if place.is_end(prefix) {

@@ -4,17 +4,17 @@ ghost use Rattle.std.specs.Prelude.{◌≡◌, ◌≢◌, ◌+◌, suc, true, fa
 ghost use Rattle.table_model.specs.Width.{width};
 ghost use Rattle.table_model.specs.Table.{root, half, inherit};
 ghost use Rattle.orig_tree.specs.Walk.{behind};
-ghost use Rattle.moves_cert.specs.Demands.{is_bare};
+ghost use Rattle.moves_model.specs.Demands.{is_bare};
 ghost use Rattle.fib_moves.specs.Needs.{IsNodeOf};
 
 use fib_addr::Prefix;
-use orig_tree::{NodeRef, Region};
+use orig_tree::{NodeRef, TreeRegion};
 
 /// A region with its node in the tree, if it is one: below a region that is none no entry stands.
 #[derive(Drop)]
 pub struct Place<'a> {
     /// The region.
-    pub region: Region<'a>,
+    pub region: TreeRegion<'a>,
     /// Its node.
     pub node: Option<NodeRef<'a>>,
 }

@@ -4,25 +4,25 @@ ghost use Rattle.std.specs.Prelude.{◌≡◌, ◌≢◌, ◌+◌, ◌++◌, ◌
 ghost use Rattle.table_model.specs.Width.{width};
 ghost use Rattle.table_model.specs.Table.{IsTable};
 ghost use Rattle.fib_addr.specs.Views.{prefix_as};
-ghost use Rattle.orig_tree.specs.Spots.{answers_in};
+ghost use Rattle.orig_tree.specs.Spots.{spot_answers};
 ghost use Rattle.cert_model.specs.Views.{row_as};
-ghost use Rattle.moves_cert.specs.Demands.{is_bare};
-ghost use Rattle.moves_cert.specs.Rows.{leaf_answer, near_region_rows};
+ghost use Rattle.moves_model.specs.Demands.{is_bare};
+ghost use Rattle.moves_model.specs.Rows.{leaf_answer, near_region_rows};
 ghost use Rattle.fib_moves.specs.Needs.{Knows};
 
 use crate::needs::{RegionNeeds, changes_of, half_of};
 use cert_model::Row;
 use fib_addr::{Hop, Prefix};
-use orig_tree::Region;
+use orig_tree::TreeRegion;
 use std::alloc::AllocError;
 
 /// The hop of a leaf: of a region without an old entry strictly within it, whose addresses all get one.
-fn leaf_hop(region: &Region<'_>, needs: &Option<Box<RegionNeeds>>) -> Option<u16>
-    requires { Knows region.now.bits (answers_in region.now) region.now.entries needs.now }
+fn leaf_hop(region: &TreeRegion<'_>, needs: &Option<Box<RegionNeeds>>) -> Option<u16>
+    requires { Knows region.now.bits (spot_answers region.now) region.now.entries needs.now }
     ensures bare { IfSome result (λ _. is_bare region.now.entries ≡ true) }
     ensures one { IfSome result (λ h. (a : List Bool) → length a ≡ region.now.bits
-        → answers_in region.now a ≡ h) }
-    ensures more { IfNone result (leaf_answer region.now.bits (answers_in region.now)
+        → spot_answers region.now a ≡ h) }
+    ensures more { IfNone result (leaf_answer region.now.bits (spot_answers region.now)
         region.now.entries ≡ None) }
     ensures bits { IfNone result (region.now.bits ≢ 0) }
 {
@@ -41,16 +41,16 @@ pub(crate) fn push_row(row: Row, out: &mut Vec<Row>) -> Result<(), AllocError>
 
 /// Adds the rows of the region of a prefix: its lower half's, its upper half's, and its own.
 pub(crate) fn list_rows(
-    region: &Region<'_>,
+    region: &TreeRegion<'_>,
     needs: &Option<Box<RegionNeeds>>,
     prefix: &Prefix,
     out: &mut Vec<Row>,
 ) -> Result<(), AllocError>
     requires bits { region.now.bits + prefix.now.len ≡ width prefix.now.family }
     requires table { IsTable region.now.bits region.now.entries }
-    requires knows { Knows region.now.bits (answers_in region.now) region.now.entries needs.now }
+    requires knows { Knows region.now.bits (spot_answers region.now) region.now.entries needs.now }
     ensures { OnOk result (map row_as out.new.items ≡ map row_as out.old.items
-        ++ near_region_rows region.now.bits (answers_in region.now) region.now.entries
+        ++ near_region_rows region.now.bits (spot_answers region.now) region.now.entries
         (prefix_as prefix.now)) }
 {
     if let Some(hop) = leaf_hop(region, needs) {

@@ -9,13 +9,13 @@ ghost use Rattle.kept_model.specs.Between.{between};
 ghost use Rattle.fib_addr.specs.Views.{prefix_as};
 ghost use Rattle.fib_delta.specs.Views.{change_as};
 ghost use Rattle.cert_model.specs.Views.{row_as};
-ghost use Rattle.orig_tree.specs.Spots.{answers_in};
+ghost use Rattle.orig_tree.specs.Spots.{spot_answers};
 ghost use Rattle.orig_tree.specs.Views.{InPlace};
 ghost use Rattle.moves_model.specs.Nearest.{near_bound};
 ghost use Rattle.moves_model.specs.Sets.{near_set, near_k};
-ghost use Rattle.moves_cert.specs.Demands.{change_bound};
-ghost use Rattle.moves_cert.specs.Shortest.{AreProvedShortest, AreShortest};
-ghost use Rattle.moves_cert.specs.Rows.{near_in, near_rows};
+ghost use Rattle.moves_model.specs.Demands.{change_bound};
+ghost use Rattle.moves_model.specs.Shortest.{AreProvedShortest, AreShortest};
+ghost use Rattle.moves_model.specs.Rows.{near_in, near_rows};
 ghost use Rattle.fib_moves.specs.Needs.{Knows};
 ghost use Rattle.fib_moves.specs.Passes.{ListsChanges};
 
@@ -23,25 +23,25 @@ use crate::answer::Near;
 use crate::down::{Differing, list_differing};
 use crate::hops::may_inherit;
 use crate::needs::{RegionNeeds, changes_of, climb, hops_of};
+use crate::one_more_if;
 use crate::place::Place;
 use crate::rows::{list_rows, push_row};
-use allowed_hops::one_more_if;
 use cert_model::Row;
 use fib_addr::{Hop, Prefix};
 use fib_delta::{Change, between};
-use orig_tree::{Region, Tree};
+use orig_tree::{Tree, TreeRegion};
 use std::alloc::{AllocError, Global};
 
 /// How many changes the whole space needs, which inherits no hop.
 fn bound_of(
     alloc: Global,
-    region: &Region<'_>,
+    region: &TreeRegion<'_>,
     needs: &Option<Box<RegionNeeds>>,
 ) -> Result<u64, AllocError>
-    requires { Knows region.now.bits (answers_in region.now) region.now.entries needs.now }
+    requires { Knows region.now.bits (spot_answers region.now) region.now.entries needs.now }
     ensures { IfOk result (λ n. n ≡ change_bound
-        (near_set region.now.bits (answers_in region.now) region.now.entries)
-        (near_k region.now.bits (answers_in region.now) region.now.entries)) }
+        (near_set region.now.bits (spot_answers region.now) region.now.entries)
+        (near_k region.now.bits (spot_answers region.now) region.now.entries)) }
 {
     let hops = may_inherit(alloc, region, hops_of(needs))?;
     let k = changes_of(region, needs)?;
@@ -51,14 +51,14 @@ fn bound_of(
 /// The changes of the whole space.
 fn list_changes(
     alloc: Global,
-    region: &Region<'_>,
+    region: &TreeRegion<'_>,
     needs: &Option<Box<RegionNeeds>>,
     whole: Prefix,
 ) -> Result<Vec<Change>, AllocError>
     requires whole { prefix_as whole ≡ whole_prefix whole.family }
     requires bits { region.now.bits + whole.len ≡ width whole.family }
     requires table { IsTable region.now.bits region.now.entries }
-    requires knows { Knows region.now.bits (answers_in region.now) region.now.entries needs.now }
+    requires knows { Knows region.now.bits (spot_answers region.now) region.now.entries needs.now }
     ensures { IfOk result (λ v. ListsChanges whole.family region.now (map change_as v.items)) }
 {
     let mut out = Differing {

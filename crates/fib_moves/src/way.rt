@@ -10,18 +10,18 @@ ghost use Rattle.table_model.specs.Table.{IsTable, root, half, inherit};
 ghost use Rattle.table_model.specs.Entries.{of_family};
 ghost use Rattle.fib_addr.specs.Views.{prefix_as};
 ghost use Rattle.orig_tree.specs.Views.{InPlace};
-ghost use Rattle.moves_event.specs.Way.{fills};
+ghost use Rattle.moves_model.specs.Way.{fills};
 ghost use Rattle.fib_moves.specs.Needs.{IsNodeOf};
 ghost use Rattle.fib_moves.specs.Ways.{IsStep, IsWay};
 
 use crate::down::below;
 use crate::place::Place;
 use fib_addr::{Hop, Prefix, bit_at};
-use orig_tree::{Label, Region, Tree, path_bits};
+use orig_tree::{Label, Tree, TreeRegion, path_bits};
 
 /// The last step on the way that isn't clear.
 #[derive(Clone, Copy)]
-pub struct Turn {
+pub struct LastBlocked {
     /// Its prefix.
     pub prefix: Prefix,
     /// The hop of its old entry.
@@ -40,11 +40,11 @@ pub struct Way<'a> {
     /// What the region inherits in the old table.
     pub comes: u16,
     /// The turn.
-    pub turn: Turn,
+    pub turn: LastBlocked,
 }
 
 /// Whether each address of a region is within an entry there.
-pub fn is_filled(region: &Region<'_>) -> bool
+pub fn is_filled(region: &TreeRegion<'_>) -> bool
     requires { IsTable region.now.bits region.now.entries }
     ensures { result ≡ fills region.now.bits region.now.entries }
 {
@@ -52,7 +52,7 @@ pub fn is_filled(region: &Region<'_>) -> bool
 }
 
 /// Whether the way isn't clear at a half with this sibling.
-fn is_blocked(half: &Region<'_>, beside: &Region<'_>) -> bool
+fn is_blocked(half: &TreeRegion<'_>, beside: &TreeRegion<'_>) -> bool
     requires { IsTable beside.now.bits beside.now.entries }
     ensures { result ≡ (is_some (root half.now.entries) || not (fills beside.now.bits beside.now.entries)) }
 {
@@ -74,7 +74,7 @@ fn step<'a>(way: Way<'a>, bit: bool) -> Way<'a>
     let comes = below(way.place.region.entry(), way.comes);
     let at = way.at.half(bit);
     let turn = if is_blocked(&place.region, &beside) {
-        Turn {
+        LastBlocked {
             prefix: at,
             old: place.region.entry(),
             inherited: comes,
@@ -106,7 +106,7 @@ fn start(tree: &Tree) -> Way<'_>
         },
         at: whole,
         comes: Hop::NONE.0,
-        turn: Turn {
+        turn: LastBlocked {
             prefix: whole,
             old,
             inherited: Hop::NONE.0,

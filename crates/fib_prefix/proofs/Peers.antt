@@ -1,4 +1,4 @@
--- The orders that the code gives peers and ways are the model's.
+-- The orders that the code gives peers and path sources are the model's.
 use Rattle.std.proofs.Common.{◌≡◌, refl, sym, ap, ◌∙◌, mod-eq_of_lt}
 use Rattle.std.specs.Cmp.{IsTotalOrder}
 use Rattle.std.specs.Ordering.{nat_cmp, ordering_then, ordering_reverse}

@@ -1,4 +1,4 @@
--- The orders that the code gives peers and ways.
+-- The orders that the code gives peers and path sources.
 use Rattle.std.specs.declared.cmp.Ordering.{Ordering}
 use Rattle.fib_prefix.specs.declared.event.Peer.{Peer}
 use Rattle.fib_prefix.specs.declared.event.Via.{Via}
@@ -9,6 +9,6 @@ use Rattle.fib_prefix.specs.contracts.event.ViaOrd.TheImpl as via_ord
 abbrev pub code_peer_cmp : Peer → Peer → Ordering
 code_peer_cmp = (peer_ord.ghosts).cmp
 
--- what `cmp` of ways answers; by the order law it is the order of ways
+-- what `cmp` of path sources answers; by the order law it is the order of path sources
 abbrev pub code_via_cmp : Via → Via → Ordering
 code_via_cmp = (via_ord.ghosts).cmp

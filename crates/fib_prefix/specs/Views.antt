@@ -3,7 +3,7 @@ use Rattle.std.specs.Prelude.{◌<◌, ◌^◌}
 use Rattle.table_model.specs.Address.{IsAddress}
 use Rattle.fib_addr.specs.Views.{addr_as, prefix_as}
 use Rattle.route_model.specs.Events.{Peer, Via, Event, Announce, Withdraw, Down, Elem, Put, Cut}
-use Rattle.route_model.specs.Choice.{Place, Offer}
+use Rattle.route_model.specs.Choice.{Place, PathAttrs}
 use Rattle.fib_prefix.specs.declared.event.Cand as code_cand
 use Rattle.fib_prefix.specs.declared.event.Peer as code_peer
 use Rattle.fib_prefix.specs.declared.event.Via as code_via
@@ -27,11 +27,11 @@ abbrev pub elem_as : code_elem.Elem → Elem
 elem_as (elem.Put v p path hop) = Put (via_as v) (prefix_as p) path (addr_as hop)
 elem_as (elem.Cut v p) = Cut (via_as v) (prefix_as p)
 
-abbrev pub cand_as : code_cand.Cand → Place × Offer
+abbrev pub cand_as : code_cand.Cand → Place × PathAttrs
 cand_as c = (record { prefix = prefix_as c.prefix; via = via_as c.via }, record { path = c.path; hop = addr_as c.hop })
 
 -- What a candidate is on the wire: an AS number (RFC 6793, 3) and a path identifier (RFC 7911, 3) of four octets, and a next hop with as many bits as its family's addresses.
-pub record IsOfOctets (c : Place × Offer) : Type 0 where
+pub record IsOfOctets (c : Place × PathAttrs) : Type 0 where
   pub asn : c.0.via.peer.asn < 2 ^ 32
   pub id : c.0.via.id < 2 ^ 32
   pub hop : IsAddress c.1.hop

@@ -13,7 +13,7 @@ pub struct Peer {
     pub asn: u32,
 }
 
-/// By which way a route comes: its peer, and the path identifier that tells the peer's routes of one prefix apart (RFC 7911, 3).
+/// The path source of a route: its peer, and the path identifier that tells the peer's routes of one prefix apart (RFC 7911, 3).
 /// Ways are ordered by peer, then by path identifier.
 #[derive(Clone, Copy, Debug, PartialEq, Eq, PartialOrd, Ord, Hash)]
 pub struct Via {
@@ -38,18 +38,18 @@ pub enum Event {
 /// What is said of one prefix and one way.
 #[derive(Clone, Copy, Debug, PartialEq, Eq)]
 pub enum Elem {
-    /// This is the candidate by that way from now on, with the length of its path and its next hop.
+    /// This is the candidate from that path source from now on, with the length of its path and its next hop.
     Put(Via, Prefix, u32, Addr),
-    /// There is none by that way from now on.
+    /// There is none from that path source from now on.
     Cut(Via, Prefix),
 }
 
-/// A candidate: the route that comes by a way for a prefix.
+/// A candidate: the route that comes from a path source for a prefix.
 #[derive(Clone, Copy, Debug, PartialEq, Eq)]
 pub struct Cand {
     /// The prefix.
     pub prefix: Prefix,
-    /// The way.
+    /// The path source.
     pub via: Via,
     /// The length of the path.
     pub path: u32,

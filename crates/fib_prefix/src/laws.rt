@@ -13,7 +13,7 @@ pub fn peer_order_law()
     ensures { (p q : code_peer.Peer) → code_peer_cmp p q ≡ peer_cmp (peer_as p) (peer_as q) }
 {}
 
-/// `cmp` of ways is their order: by peer, then by path identifier.
+/// `cmp` of path sources is their order: by peer, then by path identifier.
 pub fn via_order_law()
     ensures { (v u : code_via.Via) → code_via_cmp v u ≡ via_cmp (via_as v) (via_as u) }
 {}

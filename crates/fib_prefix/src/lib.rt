@@ -3,6 +3,7 @@
 
 mod event;
 mod laws;
+mod sink;
 
 pub use event::{Cand, Elem, Event, Peer, Via};
 pub use fib_addr::{
@@ -10,3 +11,4 @@ pub use fib_addr::{
     addr_text, bit_at, prefix_text, read_addr, read_ipv4, read_prefix,
 };
 pub use laws::{candidate_law, peer_order_law, via_order_law};
+pub use sink::CandSink;

@@ -9,7 +9,7 @@ use Rattle.csv.specs.declared.writer.QuoteStyle.TheVariants.{Never, NonNumeric}
 use Rattle.csv.specs.declared.writer.Writer.{Writer}
 use Rattle.csv.specs.declared.writer.WriterBuilder.{WriterBuilder}
 use Rattle.fib_report.specs.Writing.{setup, IsAtRow, AddsRows}
-use Rattle.printed_model.specs.Rows.{line}
+use Rattle.printed_text.specs.Rows.{line}
 
 joined : (field : List ℕ) (rest : List (List ℕ)) → field ++ fields_text setup rest ≡ join_with_byte 44 (field ∷ rest)
 unfolding fields_text

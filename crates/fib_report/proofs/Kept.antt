@@ -8,7 +8,7 @@ use Rattle.fib_addr.specs.Hops.{hop_at}
 use Rattle.fib_addr.specs.Text.{address_text}
 use Rattle.fib_addr.specs.Views.{addr_as}
 use Rattle.fib_addr.specs.declared.addr.Addr.{Addr}
-use Rattle.printed_model.specs.Rows.{IsHop}
+use Rattle.printed_text.specs.Rows.{IsHop}
 use Rattle.fib_report.specs.HopTexts.{AreTextsOf}
 use Rattle.fib_report.proofs.Proper.{address_proper}
 

@@ -7,7 +7,7 @@ use Rattle.csv.proofs.WriteFacts.{appends-more}
 use Rattle.std.specs.Io.KnownBytes.{Appends, Keeps}
 use Rattle.csv.specs.Writing.{text_written}
 use Rattle.csv.specs.declared.writer.Writer.{Writer}
-use Rattle.printed_model.specs.Rows.{PrintedRow, line_of, text_of}
+use Rattle.printed_text.specs.Rows.{PrintedRow, line_of, text_of}
 use Rattle.fib_report.specs.Writing.{AddsRows}
 
 -- rows, and then more

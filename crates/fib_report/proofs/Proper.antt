@@ -11,8 +11,8 @@ use Rattle.fib_addr.specs.declared.addr.Addr.{Addr}
 use Rattle.fib_addr.specs.declared.prefix.Prefix.{Prefix}
 use Rattle.fib_addr.specs.Views.{addr_as, prefix_as}
 use Rattle.fib_addr.proofs.Parts.{length_prefix}
-use Rattle.printed_model.specs.Rows.{PrintedRow, IsHop, IsRow, route_row}
-use Rattle.printed_model.specs.Numbered.{route_row_by}
+use Rattle.printed_text.specs.Rows.{PrintedRow, IsHop, IsRow, route_row}
+use Rattle.printed_text.specs.Numbered.{route_row_by}
 
 pub address_proper : (a : Addr) → IsAddress (addr_as a)
 address_proper a = length-bits_of (width a.family) a.bits

@@ -4,8 +4,8 @@ use Rattle.table_model.specs.Address.{Address, Prefix}
 use Rattle.table_model.specs.Changes.{Change, Add, Replace, Remove, additions}
 use Rattle.table_model.specs.Entries as table
 use Rattle.fib_addr.specs.Hops.{hop_at}
-use Rattle.printed_model.specs.Rows.{Records, Skipped, Events, Routes, Entries, Nodes, Leaves, Treated, Announced, Vrp, PrintedRow, invalid_row, add_row, replace_row, remove_row, moves_row, answer_row, visits_row, table_row, report_row, text_of}
-use Rattle.printed_model.specs.Numbered.{of_route, of_least, of_cert}
+use Rattle.printed_text.specs.Rows.{Records, Skipped, Events, Routes, Entries, Nodes, Leaves, Treated, Announced, Vrp, PrintedRow, invalid_row, add_row, replace_row, remove_row, moves_row, answer_row, visits_row, table_row, report_row, text_of}
+use Rattle.printed_text.specs.Numbered.{of_route, of_least, of_cert}
 use Rattle.fib_report.specs.Views.{Answer, Told}
 use Rattle.fib_report.specs.declared.run.Report.{Report}
 use Rattle.fib_report.specs.declared.section.Section.{Section}

@@ -7,9 +7,9 @@ use Rattle.std.proofs.lemmas.List.{length-append, map-append}
 use Rattle.table_model.specs.Address.{Address, Prefix}
 use Rattle.table_model.specs.Changes.{Change, Add, additions}
 use Rattle.table_model.specs.Entries.{Entries}
-use Rattle.printed_model.specs.Numbered.{of_least, of_route}
+use Rattle.printed_text.specs.Numbered.{of_least, of_route}
 use Rattle.fib_report.specs.Rows.{of_change, section_rows, table_entry_row}
-use Rattle.fib_report.specs.Sections.{IsReady, Writes, hops_in, writes_more, writes_none}
+use Rattle.fib_report.specs.Sections.{IsReady, WritesRows, text_hops, writes_more, writes_none}
 use Rattle.fib_report.specs.declared.run_text.RunText.{RunText}
 use Rattle.fib_report.specs.declared.section.Section.{Section}
 use Rattle.fib_report.specs.declared.section.Section.TheVariants as section
@@ -29,7 +29,7 @@ taken_in s = s.count
 
 -- the rows of these entries follow, in the same section, and the entries are counted
 pub record TakesEntries (old : SectionText) (entries : Entries) (new : SectionText) : Type 0 where
-  pub writes : Writes (run_in old) (run_in new) (section_rows (section_in old) (hops_in (run_in old)) entries)
+  pub writes : WritesRows (run_in old) (run_in new) (section_rows (section_in old) (text_hops (run_in old)) entries)
   pub section : section_in new ≡ section_in old
   pub count : taken_in new ≡ taken_in old + length entries
 
@@ -43,7 +43,7 @@ no_rows section.Least hops = refl
 
 pub takes_none : (a : SectionText) → IsReady (run_in a) → TakesEntries a [] a
 takes_none a ready = record {
-  writes = subst (Writes (run_in a) (run_in a)) (sym (no_rows (section_in a) (hops_in (run_in a)))) (writes_none (run_in a) ready);
+  writes = subst (WritesRows (run_in a) (run_in a)) (sym (no_rows (section_in a) (text_hops (run_in a)))) (writes_none (run_in a) ready);
   section = refl;
   count = sym (add-zero (taken_in a));
 }
@@ -61,13 +61,13 @@ rows_more section.Least hops entries more = map-append (of_least hops) entries m
 pub takes_more : (a b c : SectionText) (entries more : Entries) → TakesEntries a entries b → TakesEntries b more c → TakesEntries a (entries ++ more) c
 takes_more a b c entries more first next =
     let s = section_in a in
-    let hops = hops_in (run_in a) in
-    let then : Writes (run_in b) (run_in c) (section_rows s hops more) =
-    subst (λ hs. Writes (run_in b) (run_in c) (section_rows s hs more)) first.writes.hops
-    (subst (λ t. Writes (run_in b) (run_in c) (section_rows t (hops_in (run_in b)) more)) first.section next.writes)
+    let hops = text_hops (run_in a) in
+    let then : WritesRows (run_in b) (run_in c) (section_rows s hops more) =
+    subst (λ hs. WritesRows (run_in b) (run_in c) (section_rows s hs more)) first.writes.hops
+    (subst (λ t. WritesRows (run_in b) (run_in c) (section_rows t (text_hops (run_in b)) more)) first.section next.writes)
     in
     record {
-      writes = subst (Writes (run_in a) (run_in c)) (sym (rows_more s hops entries more)) (writes_more (run_in a) (run_in b) (run_in c) (section_rows s hops entries) (section_rows s hops more) first.writes then);
+      writes = subst (WritesRows (run_in a) (run_in c)) (sym (rows_more s hops entries more)) (writes_more (run_in a) (run_in b) (run_in c) (section_rows s hops entries) (section_rows s hops more) first.writes then);
       section = next.section ∙ first.section;
       count = next.count ∙ (ap (λ n. n + length more) first.count ∙ (add_assoc (taken_in a) (length entries) (length more) ∙ ap (λ n. taken_in a + n) (sym (length-append entries more))));
     }

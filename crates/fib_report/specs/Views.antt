@@ -4,7 +4,7 @@ use Rattle.table_model.specs.Address.{Address}
 use Rattle.table_model.specs.Entries.{Entries}
 use Rattle.table_model.specs.Changes.{Change}
 use Rattle.cert_model.specs.Rows.{CertRow}
-use Rattle.printed_model.specs.Rows.{Announced, Vrp}
+use Rattle.printed_text.specs.Rows.{Announced, Vrp}
 use Rattle.fib_addr.specs.Views.{addr_as, entry_as, prefix_as}
 use Rattle.cert_model.specs.Views.{row_as}
 use Rattle.fib_delta.specs.Views.{change_as}

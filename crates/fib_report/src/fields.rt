@@ -5,12 +5,12 @@
 
 ghost use Rattle.std.specs.Prelude.{◌≡◌, option_map};
 ghost use Rattle.fib_addr.specs.Views.{addr_as};
-ghost use Rattle.printed_model.specs.Rows.{count_name, family_name, hop_text, origin_text};
-ghost use Rattle.cost_cert.specs.Printed.{count_as};
+ghost use Rattle.printed_text.specs.Rows.{count_name, family_name, hop_text, origin_text};
+ghost use Rattle.printed_text.specs.Printed.{count_as};
 
-use cost_cert::Count;
 use fib_addr::{Addr, Family, MOST_TEXT, addr_text};
 use itoa::Buffer;
+use printed_text::Count;
 
 /// The address of a hop, or the word for none.
 pub fn hop_field<'a>(buffer: &'a mut [u8; MOST_TEXT], hop: Option<Addr>, word: &'a [u8]) -> &'a [u8]

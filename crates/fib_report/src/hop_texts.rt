@@ -7,7 +7,7 @@ ghost use Rattle.std.specs.Prelude.{◌≡◌, ◌↔◌, ◌+◌, ◌≤◌, �
 ghost use Rattle.fib_addr.specs.Hops.{hop_at};
 ghost use Rattle.fib_addr.specs.Text.{address_text};
 ghost use Rattle.fib_addr.specs.Views.{addr_as};
-ghost use Rattle.printed_model.specs.Rows.{IsHop, hop_text};
+ghost use Rattle.printed_text.specs.Rows.{IsHop, hop_text};
 ghost use Rattle.fib_report.specs.HopTexts.{AreTextsOf};
 
 use crate::line::{KeptText, Line};

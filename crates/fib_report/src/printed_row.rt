@@ -5,17 +5,17 @@ ghost use Rattle.std.specs.Prelude.{◌<◌, ◌≡◌, ◌≤◌, ◌∷◌, �
 ghost use Rattle.fib_addr.specs.Hops.{hop_at};
 ghost use Rattle.fib_addr.specs.Views.{addr_as, prefix_as};
 ghost use Rattle.fib_addr.specs.Text.{address_text, prefix_text};
-ghost use Rattle.printed_model.specs.Rows.{IsHop, IsRow, count_name, family_name, hop_text, invalid_row, line_of, line};
-ghost use Rattle.cost_cert.specs.Printed.{announced_as, count_as, printed_vrp_as};
+ghost use Rattle.printed_text.specs.Rows.{IsHop, IsRow, count_name, family_name, hop_text, invalid_row, line_of, line};
+ghost use Rattle.printed_text.specs.Printed.{announced_as, count_as, printed_vrp_as};
 ghost use Rattle.fib_report.specs.Writing.{AddsRows, IsAtRow};
 
 use crate::fields::{count_field, family_field, hop_field, origin_field};
 use crate::hop_texts::HopTexts;
 use crate::line::Line;
-use cost_cert::{Announced, Count, PrintedVrp};
 use csv::Writer;
 use fib_addr::{Addr, Family, Hop, MOST_TEXT, Prefix, addr_text, prefix_text};
 use itoa::Buffer;
+use printed_text::{Announced, Count, PrintedVrp};
 use std::alloc::AllocError;
 use std::io::Write;
 

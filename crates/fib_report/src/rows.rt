@@ -20,11 +20,11 @@
 ghost use Rattle.std.specs.Prelude.{◌≡◌, ◌≤◌, [], ◌∷◌, flat_map, length, map, IfOk, OnOk, Some};
 ghost use Rattle.std.specs.List.{AllByRecursion};
 ghost use Rattle.fib_addr.specs.Views.{entry_as, prefix_as};
-ghost use Rattle.cost_cert.specs.Printed.{announced_as, printed_vrp_as};
+ghost use Rattle.printed_text.specs.Printed.{announced_as, printed_vrp_as};
 ghost use Rattle.cert_model.specs.Views.{row_as};
-ghost use Rattle.printed_model.specs.Rows.{IsRow, line, line_of, text_of};
+ghost use Rattle.printed_text.specs.Rows.{IsRow, line, line_of, text_of};
 ghost use Rattle.fib_report.specs.Rows.{of_answer, of_change, of_invalid, of_moves, report_rows, report_text, section_rows};
-ghost use Rattle.printed_model.specs.Numbered.{of_cert, of_route};
+ghost use Rattle.printed_text.specs.Numbered.{of_cert, of_route};
 ghost use Rattle.fib_delta.specs.Views.{change_as};
 ghost use Rattle.fib_report.specs.Views.{answer_as, invalid_as, moves_as, run_as};
 ghost use Rattle.csv.specs.Writing.{text_written};
@@ -37,10 +37,10 @@ use crate::printed_row::{
 };
 use crate::run::{Answer, Invalid, Moves, Report};
 use crate::section::Section;
-use cost_cert::{Announced, Count, PrintedVrp, Row};
 use csv::{QuoteStyle, Writer, WriterBuilder};
 use fib_addr::{Entry, Hop, Prefix};
 use fib_delta::Change;
+use printed_text::{Announced, Count, PrintedVrp, Row};
 use std::alloc::{AllocError, Global};
 use std::io::Write;
 

@@ -3,9 +3,9 @@
 //! Plain lists, in the order in which they are to be written. Hops stand as their numbers in a `HopTable`, which the report
 //! is given beside the run. `specs/Views.antt` says what contracts see of it.
 
-use cost_cert::Row;
 use fib_addr::{Addr, Entry, Hop, Prefix};
 use fib_delta::Change;
+use printed_text::Row;
 
 /// What a run counted.
 #[derive(Clone, Copy, Debug, PartialEq, Eq)]

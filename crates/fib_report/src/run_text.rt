@@ -7,7 +7,7 @@ ghost use Rattle.std.specs.Prelude.{◌≡◌, [], ◌++◌, ◌∷◌, flat_map
 ghost use Rattle.fib_addr.specs.Views.{entry_as};
 ghost use Rattle.fib_delta.specs.Views.{change_as};
 ghost use Rattle.cert_model.specs.Views.{row_as};
-ghost use Rattle.printed_model.specs.Numbered.{of_cert};
+ghost use Rattle.printed_text.specs.Numbered.{of_cert};
 ghost use Rattle.fib_report.specs.Rows.{of_answer, of_change, of_invalid, of_moves, report_rows, section_rows};
 ghost use Rattle.fib_report.specs.Views.{answer_as, invalid_as, moves_as};
 
@@ -32,12 +32,12 @@ pub struct RunText<'a> {
 }
 
 impl<'a> RunText<'a> {
-    ghost use Rattle.fib_report.specs.Sections.{IsReady, Writes, hops_in, text_in};
+    ghost use Rattle.fib_report.specs.Sections.{IsReady, WritesRows, text_hops, text_in};
 
     /// No row yet. The numbers of hops are those of this table.
     pub fn new(alloc: Global, hops: &'a HopTable) -> RunText<'a>
         ensures ready { IsReady result }
-        ensures hops { hops_in result ≡ hops.now.list }
+        ensures hops { text_hops result ≡ hops.now.list }
         ensures empty { text_in result ≡ [] }
     {
         RunText {
@@ -49,7 +49,7 @@ impl<'a> RunText<'a> {
     /// Writes the row of an entry in its section, if it has one.
     pub(crate) fn entry(&mut self, section: Section, entry: &Entry) -> Result<(), AllocError>
         requires { IsReady self.old }
-        ensures { OnOk result (Writes self.old self.new (section_rows section (hops_in self.old)
+        ensures { OnOk result (WritesRows self.old self.new (section_rows section (text_hops self.old)
             (entry_as entry.now ∷ []))) }
     {
         put_entry(&mut self.out, section, entry, &self.hops)?;
@@ -59,7 +59,7 @@ impl<'a> RunText<'a> {
     /// Writes the rows of a section from a list of its entries. What `section` gives takes them one by one.
     pub fn entries(&mut self, section: Section, entries: &[Entry]) -> Result<(), AllocError>
         requires { IsReady self.old }
-        ensures { OnOk result (Writes self.old self.new (section_rows section (hops_in self.old)
+        ensures { OnOk result (WritesRows self.old self.new (section_rows section (text_hops self.old)
             (map entry_as entries.now))) }
     {
         for entry in entries {
@@ -71,7 +71,7 @@ impl<'a> RunText<'a> {
     /// Writes the row of an Invalid announcement.
     pub fn invalid(&mut self, invalid: &Invalid) -> Result<(), AllocError>
         requires { IsReady self.old }
-        ensures { OnOk result (Writes self.old self.new
+        ensures { OnOk result (WritesRows self.old self.new
             (of_invalid (invalid_as invalid.now) ∷ [])) }
     {
         put_invalid_row(&mut self.out, invalid)?;
@@ -81,7 +81,7 @@ impl<'a> RunText<'a> {
     /// Writes the rows of Invalid announcements from a list.
     pub fn invalids(&mut self, invalids: &[Invalid]) -> Result<(), AllocError>
         requires { IsReady self.old }
-        ensures { OnOk result (Writes self.old self.new
+        ensures { OnOk result (WritesRows self.old self.new
             (map of_invalid (map invalid_as invalids.now))) }
     {
         for invalid in invalids {
@@ -93,7 +93,7 @@ impl<'a> RunText<'a> {
     /// Writes changes, each with its event's number.
     pub fn changes(&mut self, changes: &[(u64, Change)]) -> Result<(), AllocError>
         requires { IsReady self.old }
-        ensures { OnOk result (Writes self.old self.new (map (of_change (hops_in self.old))
+        ensures { OnOk result (WritesRows self.old self.new (map (of_change (text_hops self.old))
             (map (λ c. (c.0, change_as c.1)) changes.now))) }
     {
         put_changes(&mut self.out, changes, &self.hops)?;
@@ -103,8 +103,8 @@ impl<'a> RunText<'a> {
     /// Writes the row of a change that the event of this number makes.
     fn change(&mut self, event: u64, change: &Change) -> Result<(), AllocError>
         requires { IsReady self.old }
-        ensures { OnOk result (Writes self.old self.new
-            (of_change (hops_in self.old) (event, change_as change.now) ∷ [])) }
+        ensures { OnOk result (WritesRows self.old self.new
+            (of_change (text_hops self.old) (event, change_as change.now) ∷ [])) }
     {
         put_change_row(&mut self.out, event, change, &self.hops)?;
         Ok(())
@@ -113,8 +113,8 @@ impl<'a> RunText<'a> {
     /// Writes the changes that the event of this number makes.
     pub fn event(&mut self, event: u64, changes: &[Change]) -> Result<(), AllocError>
         requires { IsReady self.old }
-        ensures { OnOk result (Writes self.old self.new
-            (map (λ c. of_change (hops_in self.old) (event, c)) (map change_as changes.now))) }
+        ensures { OnOk result (WritesRows self.old self.new
+            (map (λ c. of_change (text_hops self.old) (event, c)) (map change_as changes.now))) }
     {
         for change in changes {
             self.change(event, change)?;
@@ -125,7 +125,7 @@ impl<'a> RunText<'a> {
     /// Writes the row of how many changes an event needed.
     fn moves_of(&mut self, moves: &Moves) -> Result<(), AllocError>
         requires { IsReady self.old }
-        ensures { OnOk result (Writes self.old self.new (of_moves (moves_as moves.now) ∷ [])) }
+        ensures { OnOk result (WritesRows self.old self.new (of_moves (moves_as moves.now) ∷ [])) }
     {
         put_moves_row(&mut self.out, moves)?;
         Ok(())
@@ -134,7 +134,7 @@ impl<'a> RunText<'a> {
     /// Writes how many changes each event of a list needed.
     pub fn moves(&mut self, moves: &[Moves]) -> Result<(), AllocError>
         requires { IsReady self.old }
-        ensures { OnOk result (Writes self.old self.new
+        ensures { OnOk result (WritesRows self.old self.new
             (map of_moves (map moves_as moves.now))) }
     {
         for event in moves {
@@ -146,7 +146,7 @@ impl<'a> RunText<'a> {
     /// Writes answers.
     pub fn answers(&mut self, answers: &[Answer]) -> Result<(), AllocError>
         requires { IsReady self.old }
-        ensures { OnOk result (Writes self.old self.new (flat_map (of_answer (hops_in self.old))
+        ensures { OnOk result (WritesRows self.old self.new (flat_map (of_answer (text_hops self.old))
             (map answer_as answers.now))) }
     {
         put_answers(&mut self.out, answers, &self.hops)?;
@@ -156,7 +156,7 @@ impl<'a> RunText<'a> {
     /// Writes the rows of a certificate from a list. As a `RowSink` the text takes them one by one.
     pub fn certificate(&mut self, rows: &[Row]) -> Result<(), AllocError>
         requires { IsReady self.old }
-        ensures { OnOk result (Writes self.old self.new (map (of_cert (hops_in self.old))
+        ensures { OnOk result (WritesRows self.old self.new (map (of_cert (text_hops self.old))
             (map row_as rows.now))) }
     {
         put_cert(&mut self.out, rows, &self.hops)?;
@@ -166,7 +166,7 @@ impl<'a> RunText<'a> {
     /// Writes the counts.
     pub fn report(&mut self, report: &Report) -> Result<(), AllocError>
         requires { IsReady self.old }
-        ensures { OnOk result (Writes self.old self.new (report_rows report.now)) }
+        ensures { OnOk result (WritesRows self.old self.new (report_rows report.now)) }
     {
         put_report(&mut self.out, report)?;
         Ok(())
@@ -181,11 +181,11 @@ impl<'a> RunText<'a> {
 }
 
 impl<'a> RowSink for RunText<'a> {
-    ghost use Rattle.fib_report.specs.Sections.{IsReady, Takes, takes_more};
+    ghost use Rattle.fib_report.specs.Sections.{IsReady, TakesRows, takes_more};
 
     ghost ready = { IsReady };
 
-    ghost takes = { Takes };
+    ghost takes = { TakesRows };
 
     ghost more = { takes_more };
 

@@ -2,7 +2,7 @@
 
 ghost use Rattle.std.specs.Prelude.{◌≡◌, ◌++◌, IfOk, OnErr, OnOk};
 ghost use Rattle.std.specs.List.{AllByRecursion};
-ghost use Rattle.printed_model.specs.Rows.{IsRow};
+ghost use Rattle.printed_text.specs.Rows.{IsRow};
 ghost use Rattle.fib_report.specs.Rows.{printed_rows, run_text};
 ghost use Rattle.fib_report.specs.Views.{run_as};
 

@@ -6,20 +6,20 @@ use Rattle.fib_prefix.specs.Views.{event_as}
 use Rattle.fib_prefix.specs.declared.event.Event as code
 use Rattle.std.proofs.lemmas.Grind.{flat_map-append}
 use Rattle.route_model.specs.Events.{Event}
-use Rattle.printed_model.specs.Rows.{Announced, Vrp}
+use Rattle.printed_text.specs.Rows.{Announced, Vrp}
 use Rattle.fib_report.specs.Views.{invalid_as}
 use Rattle.fib_report.specs.declared.run.Invalid as code_invalid
-use Rattle.fib_rov.specs.Rov.{invalid_in, invalid_of, judged, left_of}
+use Rattle.fib_rov.specs.Rov.{invalid_in, invalid_of, judged_by_vrps, left_of}
 
 -- what is left of events and of more is what is left of each
 pub left_more : (vrps : List Vrp) (events more : List Event) → left_of vrps (events ++ more) ≡ left_of vrps events ++ left_of vrps more
 unfolding left_of
-left_more vrps events more = map-append (λ (e : Event). (judged vrps e).0) events more
+left_more vrps events more = map-append (λ (e : Event). (judged_by_vrps vrps e).0) events more
 
 -- none is lost
 pub left_many : (vrps : List Vrp) (events : List Event) → length (left_of vrps events) ≡ length events
 unfolding left_of
-left_many vrps events = length-map events (λ (e : Event). (judged vrps e).0)
+left_many vrps events = length-map events (λ (e : Event). (judged_by_vrps vrps e).0)
 
 pub invalid_more : (vrps : List Vrp) (events more : List Event) → invalid_in vrps (events ++ more) ≡ invalid_in vrps events ++ invalid_in vrps more
 unfolding invalid_in
@@ -27,7 +27,7 @@ invalid_more vrps events more = flat_map-append (invalid_of vrps) events more
 
 -- ---- one event after another, in its place
 
-left_next : (vrps : List Vrp) (e : Event) (events : List Event) → left_of vrps (e ∷ events) ≡ (judged vrps e).0 ∷ left_of vrps events
+left_next : (vrps : List Vrp) (e : Event) (events : List Event) → left_of vrps (e ∷ events) ≡ (judged_by_vrps vrps e).0 ∷ left_of vrps events
 unfolding left_of
 left_next vrps e events = refl
 
@@ -54,7 +54,7 @@ module _ (vrps : List Vrp) (items : List code.Event) (i : ℕ) (d y : code.Event
   before : map event_as (take (i + 1) put) ≡ map event_as (take i items) ++ event_as y ∷ []
   before = ap (map event_as) (take_more_set items i y lt) ∙ map-append event_as (take i items) (y ∷ [])
 
-  pub left_step : (goal : List Event) → event_as y ≡ (judged vrps one).0 → map event_as (take i items) ++ left_of vrps (map event_as (drop i items)) ≡ goal → map event_as (take (i + 1) put) ++ left_of vrps (map event_as (drop (i + 1) put)) ≡ goal
+  pub left_step : (goal : List Event) → event_as y ≡ (judged_by_vrps vrps one).0 → map event_as (take i items) ++ left_of vrps (map event_as (drop i items)) ≡ goal → map event_as (take (i + 1) put) ++ left_of vrps (map event_as (drop (i + 1) put)) ≡ goal
   left_step goal is e =
       ap (λ es. map event_as (take (i + 1) put) ++ left_of vrps es) behind
       ∙ (ap (λ es. es ++ left_of vrps later) before

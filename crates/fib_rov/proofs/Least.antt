@@ -14,7 +14,7 @@ use Rattle.fib_rov.specs.Rov.{covers_route, is_from, matches}
 use Rattle.fib_rov.specs.Views.{allows, vrp_as}
 use Rattle.fib_rov.specs.declared.vrp.Vrp.{Vrp}
 use Rattle.fib_rov.specs.declared.numbered.Numbered.{Numbered}
-use Rattle.fib_rov.specs.Index.{IsLast, covers, numbered, place_at, vrp_of, with_number}
+use Rattle.fib_rov.specs.Index.{IsLast, vrp_covers, numbered, place_at, vrp_of, with_number}
 use Rattle.fib_rov.proofs.Firsts.{first_few, first_least, first_mapped, first_passes}
 use Rattle.fib_rov.proofs.Lasts.{apart}
 use Rattle.fib_rov.proofs.Numbers.{row_at, row_is}
@@ -30,13 +30,13 @@ module _ (f : Vrp → Bool) (list : List Vrp) (sorted : List Numbered) where
   least_start = record { few = omega arith; some = λ v h. absurd (omega arith); least = λ i r h k e. absurd (omega arith) }
 
   -- those between pass no test that only VRPs pass which cover the prefix
-  pub least_further : (p : Prefix) (k at n : ℕ) → ((r : Numbered) → f (vrp_of r) ≡ true → covers p r ≡ true) → IsLast (covers p) sorted k at → Least f list sorted k n → Least f list sorted at n
+  pub least_further : (p : Prefix) (k at n : ℕ) → ((r : Numbered) → f (vrp_of r) ≡ true → vrp_covers p r ≡ true) → IsLast (vrp_covers p) sorted k at → Least f list sorted k n → Least f list sorted at n
   least_further p k at n only last l = record {
     few = l.few;
     some = l.some;
     least = λ i r h lt e. elim (cases_lt i k) [
       | inr ge ↦ l.least i r ge lt e
-      | inl new ↦ absurd (apart (covers p (get_or sorted i r)) (only (get_or sorted i r) e) (last.none i r h new))
+      | inl new ↦ absurd (apart (vrp_covers p (get_or sorted i r)) (only (get_or sorted i r) e) (last.none i r h new))
     ];
   }
 
@@ -111,14 +111,14 @@ covering p v = covers_route p (vrp_as v)
 abbrev pub matching : Prefix → Option ℕ → Vrp → Bool
 matching p origin v = matches p origin (vrp_as v)
 
-pub only_covering : (p : Prefix) (r : Numbered) → covering p (vrp_of r) ≡ true → covers p r ≡ true
+pub only_covering : (p : Prefix) (r : Numbered) → covering p (vrp_of r) ≡ true → vrp_covers p r ≡ true
 only_covering p r e = e
 
-pub only_matching : (p : Prefix) (origin : Option ℕ) (r : Numbered) → matching p origin (vrp_of r) ≡ true → covers p r ≡ true
-only_matching p origin r e = (and_parts (covers p r) (not (nat_lt r.maxlen (length p.bits)) && is_from origin r.asn) e).0
+pub only_matching : (p : Prefix) (origin : Option ℕ) (r : Numbered) → matching p origin (vrp_of r) ≡ true → vrp_covers p r ≡ true
+only_matching p origin r e = (and_parts (vrp_covers p r) (not (nat_lt r.maxlen (length p.bits)) && is_from origin r.asn) e).0
 
 -- of a VRP that covers it, by the length that the prefix keeps
-pub matching_is : (q : code.Prefix) (origin : Option ℕ) (r : Numbered) → covers (prefix_as q) r ≡ true → matching (prefix_as q) origin (vrp_of r) ≡ allows q.len origin (vrp_of r)
+pub matching_is : (q : code.Prefix) (origin : Option ℕ) (r : Numbered) → vrp_covers (prefix_as q) r ≡ true → matching (prefix_as q) origin (vrp_of r) ≡ allows q.len origin (vrp_of r)
 matching_is q origin r e =
     ap (λ b. b && (not (nat_lt r.maxlen (length (prefix_as q).bits)) && is_from origin r.asn)) e
     ∙ ap (λ n. not (nat_lt r.maxlen n) && is_from origin r.asn) (length_prefix (width q.family) q.len q.bits q.fits)

@@ -3,12 +3,12 @@ use Rattle.std.proofs.lemmas.Bool.{eqb-true}
 use Rattle.std.proofs.Common.{arith, ◌≡◌, List, [], ◌∷◌, ◌++◌, None, true, length, map, refl, sym, ap, ◌∙◌, append-nil}
 use Rattle.std.specs.Prelude.{Option, ℕ, suc, ◌==◌}
 use Rattle.route_model.specs.Events.{Event, Announce, Withdraw, Down}
-use Rattle.printed_model.specs.Rows.{Announced, Vrp}
+use Rattle.printed_text.specs.Rows.{Announced, Vrp}
 use Rattle.fib_rov.specs.declared.vrp.Vrp as code
 use Rattle.fib_rov.specs.Views.{vrp_as}
-use Rattle.fib_rov.specs.Rov.{invalid_in, invalid_of, judged, left_of}
+use Rattle.fib_rov.specs.Rov.{invalid_in, invalid_of, judged_by_vrps, left_of}
 
-pub judged_by_none : (e : Event) → judged [] e ≡ (e, None)
+pub judged_by_none : (e : Event) → judged_by_vrps [] e ≡ (e, None)
 judged_by_none (Announce via p path hop origin) = refl
 judged_by_none (Withdraw via p) = refl
 judged_by_none (Down peer) = refl

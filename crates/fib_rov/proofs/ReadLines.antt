@@ -5,9 +5,9 @@ use Rattle.octet_fields.specs.Field.{◌>>=◌}
 use Rattle.std.proofs.lemmas.Bool.{eqb-true}
 use Rattle.std.proofs.lemmas.List.{length-map, append_assoc, append-nil}
 use Rattle.bstr.specs.Text.{without_terminator, lines_of as cut_lines}
-use Rattle.printed_model.specs.Texts.{BadLine, lines_of}
-use Rattle.printed_model.proofs.Lines.{lines_same, few_lines}
-use Rattle.printed_model.specs.Rows.{Vrp}
+use Rattle.printed_text.specs.Texts.{BadLine, lines_of}
+use Rattle.printed_text.proofs.Lines.{lines_same, few_lines}
+use Rattle.printed_text.specs.Rows.{Vrp}
 use Rattle.fib_rov.specs.Lines.{vrp_in, at_line, vrps_of, vrps_in}
 
 -- the VRPs so far, and those of what is left

@@ -37,8 +37,8 @@ abbrev pub stands_up_to : Prefix → Numbered → Bool
 stands_up_to q r = is_le (prefix_cmp (prefix_as (prefix_of r)) q)
 
 -- so many stand up to q, and the others behind it
-abbrev pub IsPlaceOf : Prefix → List Numbered → ℕ → Type 0
-IsPlaceOf q = IsPartitionPoint (λ r. stands_up_to q r ≡ true) (λ r. stands_up_to q r ≡ false)
+abbrev pub IsVrpPlace : Prefix → List Numbered → ℕ → Type 0
+IsVrpPlace q = IsPartitionPoint (λ r. stands_up_to q r ≡ true) (λ r. stands_up_to q r ≡ false)
 
 -- the first so many stand up to q
 pub record AreUpTo (q : Prefix) (sorted : List Numbered) (count : ℕ) : Type 0 where
@@ -48,12 +48,12 @@ pub record AreUpTo (q : Prefix) (sorted : List Numbered) (count : ℕ) : Type 0 
 -- ---- what covers a prefix
 
 -- its prefix contains q
-abbrev pub covers : Prefix → Numbered → Bool
-covers q r = is_within q (prefix_as (prefix_of r))
+abbrev pub vrp_covers : Prefix → Numbered → Bool
+vrp_covers q r = is_within q (prefix_as (prefix_of r))
 
 -- its prefix contains q, and is another
 abbrev pub encloses : Prefix → Numbered → Bool
-encloses q r = covers q r && not (same_prefix (prefix_as (prefix_of r)) q)
+encloses q r = vrp_covers q r && not (same_prefix (prefix_as (prefix_of r)) q)
 
 -- of the first `count` of a list the last that passes the test is the one of number `at`, counted from 1; if `at` is 0 none passes
 pub record IsLast (f : Numbered → Bool) (sorted : List Numbered) (count at : ℕ) : Type 0 where

@@ -5,9 +5,9 @@ use Rattle.octet_fields.specs.Field.{◌>>=◌}
 use Rattle.table_model.specs.Width.{width}
 use Rattle.table_model.specs.Address.{Prefix}
 use Rattle.fib_addr.specs.Text.{number_below}
-use Rattle.printed_model.specs.Reading.{bad_number, is_comma, or_why, prefix_field, vrp_fields}
-use Rattle.printed_model.specs.Rows.{Vrp}
-use Rattle.printed_model.specs.Texts.{BadLine, line_texts}
+use Rattle.printed_text.specs.Reading.{bad_number, is_comma, or_why, prefix_field, vrp_fields}
+use Rattle.printed_text.specs.Rows.{Vrp}
+use Rattle.printed_text.specs.Texts.{BadLine, line_texts}
 
 -- ---- a line
 

@@ -2,7 +2,7 @@
 use Rattle.std.specs.Prelude.{ℕ, Bool, false, not, ◌&&◌, ◌==◌, List, [], length, map, flat_map, nat_lt, position, slice_get, option_to_list, Option, Some, None}
 use Rattle.table_model.specs.Address.{Prefix}
 use Rattle.table_model.specs.Halves.{is_within}
-use Rattle.printed_model.specs.Rows.{Announced, Vrp}
+use Rattle.printed_text.specs.Rows.{Announced, Vrp}
 use Rattle.route_model.specs.Events.{Event, Announce, Withdraw, Down}
 use Rattle.fib_rov.specs.declared.state.State.{State}
 use Rattle.fib_rov.specs.declared.state.State.TheVariants.{Valid, Invalid, NotFound}
@@ -40,14 +40,14 @@ left_in NotFound announced withdrawn = (announced, None)
 
 -- An announcement of an Invalid route is the withdrawal of its way and prefix, with the number of the first VRP that covers it; any other
 -- event stays as it is.
-abbrev pub judged : List Vrp → Event → Event × Option ℕ
-judged vrps (Announce via p path hop origin) = left_in (state_of vrps p origin) (Announce via p path hop origin) (Withdraw via p)
-judged vrps (Withdraw via p) = (Withdraw via p, None)
-judged vrps (Down peer) = (Down peer, None)
+abbrev pub judged_by_vrps : List Vrp → Event → Event × Option ℕ
+judged_by_vrps vrps (Announce via p path hop origin) = left_in (state_of vrps p origin) (Announce via p path hop origin) (Withdraw via p)
+judged_by_vrps vrps (Withdraw via p) = (Withdraw via p, None)
+judged_by_vrps vrps (Down peer) = (Down peer, None)
 
 -- what is left of events
 unfoldable pub left_of : List Vrp → List Event → List Event
-left_of vrps events = map (λ e. (judged vrps e).0) events
+left_of vrps events = map (λ e. (judged_by_vrps vrps e).0) events
 
 -- an announcement of this route, with the VRP of this number
 abbrev pub announced_with : List Vrp → Event → ℕ → List (Announced × Vrp)
@@ -57,7 +57,7 @@ announced_with vrps (Down peer) n = []
 
 -- an announcement that is Invalid, with the first VRP that covers it; of any other event none
 abbrev pub invalid_of : List Vrp → Event → List (Announced × Vrp)
-invalid_of vrps e = flat_map (announced_with vrps e) (option_to_list (judged vrps e).1)
+invalid_of vrps e = flat_map (announced_with vrps e) (option_to_list (judged_by_vrps vrps e).1)
 
 -- the Invalid announcements of events, each with the first VRP that covers it, in their order
 unfoldable pub invalid_in : List Vrp → List Event → List (Announced × Vrp)

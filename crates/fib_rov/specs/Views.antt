@@ -1,7 +1,7 @@
 -- What a clause sees of VRPs.
 use Rattle.std.specs.Prelude.{ℕ, Bool, not, ◌&&◌, nat_lt, Option}
 use Rattle.fib_addr.specs.Views.{prefix_as}
-use Rattle.printed_model.specs.Rows.{Vrp}
+use Rattle.printed_text.specs.Rows.{Vrp}
 use Rattle.fib_rov.specs.Rov.{is_from}
 use Rattle.fib_rov.specs.declared.vrp.Vrp as code
 

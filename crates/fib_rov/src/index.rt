@@ -10,7 +10,7 @@ ghost use Rattle.std.specs.List.Sorted.{IsPermutation};
 ghost use Rattle.table_model.specs.Address.{IsPrefix, Prefix as model_prefix};
 ghost use Rattle.fib_addr.specs.Views.{prefix_as};
 ghost use Rattle.fib_rov.specs.declared.numbered.Numbered as code;
-ghost use Rattle.fib_rov.specs.Index.{AreLinked, AreSorted, AreUpTo, IsLast, IsPlaceOf, covers, encloses, numbered, prefix_of, stands_up_to};
+ghost use Rattle.fib_rov.specs.Index.{AreLinked, AreSorted, AreUpTo, IsLast, IsVrpPlace, vrp_covers, encloses, numbered, prefix_of, stands_up_to};
 
 use crate::numbered::Numbered;
 use crate::vrp::Vrp;
@@ -43,7 +43,7 @@ fn last_cover(sorted: &[Numbered], links: &[usize], count: usize, prefix: &Prefi
     requires sorted { AreSorted sorted.now }
     requires linked { AreLinked sorted.now count links.now }
     requires up_to { AreUpTo (prefix_as prefix.now) sorted.now count }
-    ensures { IsLast (covers (prefix_as prefix.now)) sorted.now count result }
+    ensures { IsLast (vrp_covers (prefix_as prefix.now)) sorted.now count result }
 {
     let mut at = count;
     while at > 0 && !sorted[at - 1].covers(prefix) {
@@ -85,7 +85,7 @@ pub(crate) fn link_all(alloc: Global, sorted: &[Numbered]) -> Result<Vec<usize>,
 fn place_of(sorted: &[Numbered], prefix: &Prefix) -> usize
     requires { AreSorted sorted.now }
     ensures bound { result ≤ length sorted.now }
-    ensures placed { IsPlaceOf (prefix_as prefix.now) sorted.now result }
+    ensures placed { IsVrpPlace (prefix_as prefix.now) sorted.now result }
 {
     sorted.partition_point(
         |vrp: &Numbered| -> bool
@@ -98,7 +98,7 @@ fn place_of(sorted: &[Numbered], prefix: &Prefix) -> usize
 pub(crate) fn last_covering(sorted: &[Numbered], links: &[usize], prefix: &Prefix) -> usize
     requires sorted { AreSorted sorted.now }
     requires linked { AreLinked sorted.now (length sorted.now) links.now }
-    ensures { IsLast (covers (prefix_as prefix.now)) sorted.now (length sorted.now) result }
+    ensures { IsLast (vrp_covers (prefix_as prefix.now)) sorted.now (length sorted.now) result }
 {
     last_cover(sorted, links, place_of(sorted, prefix), prefix)
 }
@@ -109,8 +109,8 @@ pub(crate) fn covering_before(sorted: &[Numbered], links: &[usize], at: usize) -
     requires within { at ≤ length sorted.now }
     requires sorted { AreSorted sorted.now }
     requires linked { AreLinked sorted.now (length sorted.now) links.now }
-    ensures { (p : model_prefix) (r : code.Numbered) → IsPrefix p → covers p (get_or sorted.now (at - 1) r) ≡ true →
-        IsLast (covers p) sorted.now (at - 1) result }
+    ensures { (p : model_prefix) (r : code.Numbered) → IsPrefix p → vrp_covers p (get_or sorted.now (at - 1) r) ≡ true →
+        IsLast (vrp_covers p) sorted.now (at - 1) result }
 {
     if at > 1 && sorted[at - 2].has_prefix_of(&sorted[at - 1]) {
         at - 1

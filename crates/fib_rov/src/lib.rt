@@ -14,8 +14,8 @@ mod state;
 mod vrp;
 mod vrps;
 
-pub use cost_cert::BadRow;
 pub use line::BAD_MAXLEN;
+pub use printed_text::BadRow;
 pub use reading::RovError;
 pub use state::State;
 pub use vrp::Vrp;

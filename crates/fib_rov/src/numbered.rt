@@ -26,7 +26,7 @@ impl Numbered {
     ghost use Rattle.table_model.specs.Address.{same_prefix};
     ghost use Rattle.table_model.specs.Order.{prefix_cmp};
     ghost use Rattle.fib_addr.specs.Views.{prefix_as};
-    ghost use Rattle.fib_rov.specs.Index.{covers, prefix_of, stands_up_to, vrp_of, with_number};
+    ghost use Rattle.fib_rov.specs.Index.{vrp_covers, prefix_of, stands_up_to, vrp_of, with_number};
 
     /// The VRP with this number.
     pub(crate) fn new(number: usize, vrp: &Vrp) -> Numbered
@@ -74,7 +74,7 @@ impl Numbered {
 
     /// Whether its prefix contains this one.
     pub(crate) fn covers(&self, prefix: &Prefix) -> bool
-        ensures { result ≡ covers (prefix_as prefix.now) self.now }
+        ensures { result ≡ vrp_covers (prefix_as prefix.now) self.now }
     {
         prefix.is_within(&self.prefix())
     }

@@ -7,7 +7,7 @@ ghost use Rattle.fib_rov.specs.Lists.{IsListed};
 use crate::line::read_vrp;
 use crate::vrp::Vrp;
 use bstr::ByteSlice;
-use cost_cert::BadRow;
+use printed_text::BadRow;
 use std::alloc::{AllocError, AllocFailed, Global};
 use thiserror::Error;
 

@@ -4,9 +4,9 @@ ghost use Rattle.std.specs.Prelude.{◌≡◌, ◌++◌, [], map, option_map, op
 ghost use Rattle.fib_addr.specs.Views.{prefix_as};
 ghost use Rattle.fib_prefix.specs.Views.{event_as};
 ghost use Rattle.fib_rov.specs.Lines.{vrps_in};
-ghost use Rattle.fib_rov.specs.Lists.{IsRead};
+ghost use Rattle.fib_rov.specs.Lists.{IsListRead};
 ghost use Rattle.fib_report.specs.Views.{invalid_as};
-ghost use Rattle.fib_rov.specs.Rov.{announced_with, decided, invalid_in, invalid_of, judged, left_of, state_of};
+ghost use Rattle.fib_rov.specs.Rov.{announced_with, decided, invalid_in, invalid_of, judged_by_vrps, left_of, state_of};
 ghost use Rattle.fib_rov.specs.Views.{vrp_as};
 ghost use Rattle.fib_rov.specs.Index.{IsIndex, place_at};
 
@@ -33,7 +33,7 @@ pub struct Vrps {
 
 impl Model for Vrps {
     ghost use Rattle.std.specs.Prelude.{List, map};
-    ghost use Rattle.printed_model.specs.Rows.{Vrp};
+    ghost use Rattle.printed_text.specs.Rows.{Vrp};
     ghost use Rattle.fib_rov.specs.Views.{vrp_as};
     ghost use Rattle.fib_rov.specs.Index.{IsIndex};
 
@@ -129,9 +129,9 @@ impl Vrps {
     ///
     /// # Errors
     ///
-    /// `BadRow` names the first line that is neither empty nor a VRP, and says why (`cost_cert::why` or `BAD_MAXLEN`); or no memory.
+    /// `BadRow` names the first line that is neither empty nor a VRP, and says why (`printed_text::why` or `BAD_MAXLEN`); or no memory.
     pub fn read(alloc: Global, text: &[u8]) -> Result<Vrps, RovError>
-        ensures { IsRead result (vrps_in text.now) }
+        ensures { IsListRead result (vrps_in text.now) }
     {
         let list = read_vrps(alloc, text)?;
         let vrps = Vrps::new(alloc, list)?;
@@ -158,7 +158,7 @@ impl Vrps {
     /// withdrawal of its way and prefix, with the number of the first VRP that covers it; any other event stays as it is. It costs what
     /// `state` does, and takes no memory.
     pub fn judge(&self, event: &Event) -> (Event, Option<u64>)
-        ensures { (event_as result.0, result.1) ≡ judged self.now (event_as event.now) }
+        ensures { (event_as result.0, result.1) ≡ judged_by_vrps self.now (event_as event.now) }
     {
         if let Event::Announce(via, prefix, _, _, origin) = *event
             && let State::Invalid(number) = self.state(&prefix, origin)
@@ -190,7 +190,7 @@ impl Vrps {
 
     /// What is left of an event, and the announcement that it is, if it is an Invalid one.
     fn judge_one(&self, event: &Event) -> (Event, Option<Invalid>)
-        ensures left { event_as result.0 ≡ (judged self.now (event_as event.now)).0 }
+        ensures left { event_as result.0 ≡ (judged_by_vrps self.now (event_as event.now)).0 }
         ensures invalid { option_to_list (option_map invalid_as result.1)
             ≡ invalid_of self.now (event_as event.now) }
     {

@@ -7,8 +7,8 @@ use Rattle.std.proofs.lemmas.List.{length-map}
 use Rattle.bstr.specs.Text.{without_terminator, lines_of as cut_lines}
 use Rattle.table_model.specs.Address.{Address}
 use Rattle.fib_addr.specs.Text.{address_in}
-use Rattle.printed_model.specs.Texts.{lines_of, line_texts}
-use Rattle.printed_model.proofs.Lines.{lines_same, few_lines}
+use Rattle.printed_text.specs.Texts.{lines_of, line_texts}
+use Rattle.printed_text.proofs.Lines.{lines_same, few_lines}
 use Rattle.fib_due.specs.Asks.{address_or, addresses_from}
 use Rattle.fib_run.specs.Asking.{asks_behind}
 

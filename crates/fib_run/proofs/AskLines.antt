@@ -6,7 +6,7 @@ use Rattle.std.proofs.lemmas.List.Elements.{All-from_get_or, filter-append}
 use Rattle.std.proofs.lemmas.List.Folds.{list_any_none, list_any-append}
 use Rattle.std.proofs.Math.Seq.{take-suc}
 use Rattle.bstr.specs.Find.{NoneAfter, Nowhere, Passes, is_byte}
-use Rattle.printed_model.specs.Texts.{in_front, lines_of}
+use Rattle.printed_text.specs.Texts.{in_front, lines_of}
 use Rattle.fib_due.specs.Asks.{ended_lines, has_feed}
 use Rattle.fib_run.specs.Asking.{AreEnded}
 

@@ -15,8 +15,8 @@ use Rattle.fib_run.specs.Feeds.{ask_end, asks_end}
 use Rattle.fib_io.specs.Pieces.{octets_read, octets_from, ComeNext, IsEnd, IsLarge}
 use Rattle.fib_io.specs.declared.pieces.ReadError.{ReadError}
 use Rattle.fib_io.specs.declared.pieces.ReadError.TheVariants as pieces
-use Rattle.printed_model.specs.Texts.{lines_of, line_texts}
-use Rattle.printed_model.proofs.Lines.{few_lines}
+use Rattle.printed_text.specs.Texts.{lines_of, line_texts}
+use Rattle.printed_text.proofs.Lines.{few_lines}
 use Rattle.fib_run.specs.declared.asks.AskError.{AskError}
 use Rattle.fib_run.specs.declared.asks.AskError.TheVariants.{BadLine, NoMemory, Fault, TooLarge}
 use Rattle.fib_run.specs.declared.asks.AskReader.{AskReader}
@@ -25,11 +25,11 @@ use Rattle.fib_due.specs.declared.outcome.Outcome.TheVariants as outcome
 use Rattle.fib_due.specs.declared.outcome.Which.TheVariants.{Asks}
 use Rattle.fib_due.specs.Asks.{addresses_from, asks_in, ended_asks_in, ended_lines, has_feed}
 use Rattle.fib_run.specs.Asking.{AreEnded, AsksFed, AsksFrom, AsksStand, BringsAsks, HasBadLine, ReadsLines, ask_of_input, ask_refusal, asks_behind}
-use Rattle.fib_due.specs.Due.{asks_of, told_asks}
+use Rattle.fib_due.specs.Due.{asks_from, told_asks}
 use Rattle.fib_due.specs.InTime.{AsksMayGoOn}
 use Rattle.fib_run.specs.Reads.{IsList}
-use Rattle.whole_input.specs.Cuts.{is_small}
-use Rattle.whole_input.proofs.Arriving.{Comes, all_fed, comes_first, comes_next, such_before}
+use Rattle.mrt_read.specs.Cuts.{is_small}
+use Rattle.mrt_read.proofs.Arriving.{Comes, all_fed, comes_first, comes_next, such_before}
 use Rattle.fib_due.specs.Stops.{Stop, Refused, FailsDue, IsDueIfTold, lined, lined_past}
 use Rattle.fib_run.proofs.AskLemmas.{addresses_on, then_lines}
 use Rattle.fib_run.proofs.AskLines.{ended_both, ended_front, ended_more, ended_none, ends_lines, held_more, no_feed, no_feed_after}
@@ -194,18 +194,18 @@ refused_is : (d : Result (List Address) Stop) (o : Outcome) → d ≡ Err (Refus
 refused_is d o e = rw e refl
 
 -- what is due of an input that ends, and of one that goes on
-small_due : (c : List ℕ) → is_small c ≡ true → asks_of c ≡ lined Asks (asks_in c)
-unfolding asks_of
+small_due : (c : List ℕ) → is_small c ≡ true → asks_from c ≡ lined Asks (asks_in c)
+unfolding asks_from
 small_due c e = ap (λ t. cond t (lined Asks (asks_in c)) (lined_past Asks (ended_asks_in (octets_read c)))) e
 
-past_due : (c : List ℕ) → is_small c ≡ false → asks_of c ≡ lined_past Asks (ended_asks_in (octets_read c))
-unfolding asks_of
+past_due : (c : List ℕ) → is_small c ≡ false → asks_from c ≡ lined_past Asks (ended_asks_in (octets_read c))
+unfolding asks_from
 past_due c e = ap (λ t. cond t (lined Asks (asks_in c)) (lined_past Asks (ended_asks_in (octets_read c)))) e
 
-bad_due : (c octets rest : List ℕ) (line : ℕ) → octets_read c ≡ octets ++ rest → HasBadLine octets line → asks_of c ≡ Err (Refused (outcome.BadLine Asks line 1))
+bad_due : (c octets rest : List ℕ) (line : ℕ) → octets_read c ≡ octets ++ rest → HasBadLine octets line → asks_from c ≡ Err (Refused (outcome.BadLine Asks line 1))
 bad_due c octets rest line e bad = by_test (is_small c) refl
   where
-    by_test : (t : Bool) → is_small c ≡ t → asks_of c ≡ Err (Refused (outcome.BadLine Asks line 1))
+    by_test : (t : Bool) → is_small c ≡ t → asks_from c ≡ Err (Refused (outcome.BadLine Asks line 1))
     by_test true s =
         let whole : c ≡ octets ++ rest = sym (take_all (2 ^ 36) c (leb-true (length c) (2 ^ 36) s)) ∙ e in
         small_due c s ∙ ap (lined Asks) (ap asks_in whole ∙ bad.whole rest)
@@ -214,7 +214,7 @@ bad_due c octets rest line e bad = by_test (is_small c) refl
 pub refused_feed : (content : Option (List ℕ)) (old new : AskReader) (room : List ℕ) (at n : ℕ) (error : AskError) → IfSome content (λ c. ComeNext c at room n) → Asking content old at → ((fed : List ℕ) → AsksStand fed old → AsksFed {T = Unit {0}} (fed ++ take n room) (Err error) new) → FailsDue (ask_refusal error) (told_asks content)
 refused_feed None old new room at n (BadLine line) next s fails = tt
 refused_feed (Some c) old new room at n (BadLine line) next s fails =
-    refused_is (asks_of c) (outcome.BadLine Asks line 1) (bad_due c (s.fed ++ take n room) (octets_from (at + n) c) line (comes_next (Some c) s.fed room at n s.comes next) (fails s.fed s.stands))
+    refused_is (asks_from c) (outcome.BadLine Asks line 1) (bad_due c (s.fed ++ take n room) (octets_from (at + n) c) line (comes_next (Some c) s.fed room at n s.comes next) (fails s.fed s.stands))
 refused_feed content old new room at n NoMemory next s fails = tt
 refused_feed content old new room at n Fault next s fails = absurd (fails s.fed s.stands)
 refused_feed content old new room at n TooLarge next s fails = absurd (fails s.fed s.stands)
@@ -223,7 +223,7 @@ refused_large : (content : Option (List ℕ)) (reader : AskReader) (at : ℕ) �
 refused_large None reader at large s = tt
 refused_large (Some c) reader at large s =
     let all : ended_asks_in (octets_read c) ≡ Ok (map addr_as reader.asks.items) = ap ended_asks_in (all_fed c s.fed at large.0 s.comes) ∙ ended_asks s.fed reader s.stands in
-    refused_is (asks_of c) (outcome.TooLarge Asks) (past_due c (lt-leb (length c) (2 ^ 36) large.1) ∙ ap (lined_past Asks) all)
+    refused_is (asks_from c) (outcome.TooLarge Asks) (past_due c (lt-leb (length c) (2 ^ 36) large.1) ∙ ap (lined_past Asks) all)
 
 pub refused_piece : (content : Option (List ℕ)) (reader : AskReader) (at : ℕ) (error : ReadError) → (IsErrOf {T = ℕ} (Err error) pieces.TooLarge → IfSome content (λ c. IsLarge c at)) → Asking content reader at → FailsDue (ask_refusal (ask_of_input error)) (told_asks content)
 refused_piece content reader at pieces.Fault large s = tt
@@ -232,7 +232,7 @@ refused_piece content reader at pieces.TooLarge large s = refused_large content 
 
 -- ---- the end
 
-ends_due : (c fed : List ℕ) (at : ℕ) (read : Result (List Address) ℕ) → IsEnd c at → Comes fed at c → asks_in fed ≡ read → asks_of c ≡ lined Asks read
+ends_due : (c fed : List ℕ) (at : ℕ) (read : Result (List Address) ℕ) → IsEnd c at → Comes fed at c → asks_in fed ≡ read → asks_from c ≡ lined Asks read
 ends_due c fed at read end comes e =
     let whole : c ≡ fed = sym (take_all (2 ^ 36) c end.1) ∙ all_fed c fed at end.0 comes in
     small_due c (le-leb (length c) (2 ^ 36) end.1) ∙ ap (lined Asks) (ap asks_in whole ∙ e)
@@ -242,9 +242,9 @@ brought_is d asks e = rw e refl
 
 pub brings_all : {X : Type 0} (content : Option (List ℕ)) (reader : AskReader) (at : ℕ) (result : Result (Vec Addr X) AskError) → IfSome content (λ c. IsEnd c at) → Asking content reader at → ((fed : List ℕ) → AsksStand fed reader → IsList (λ (asks : Vec Addr X). map addr_as asks.items) result (asks_in fed)) → BringsAsks result (told_asks content)
 brings_all None reader at (Ok asks) end s gives = tt
-brings_all (Some c) reader at (Ok asks) end s gives = brought_is (asks_of c) (map addr_as asks.items) (ends_due c s.fed at (Ok (map addr_as asks.items)) end s.comes (gives s.fed s.stands))
+brings_all (Some c) reader at (Ok asks) end s gives = brought_is (asks_from c) (map addr_as asks.items) (ends_due c s.fed at (Ok (map addr_as asks.items)) end s.comes (gives s.fed s.stands))
 brings_all None reader at (Err (BadLine line)) end s gives = tt
-brings_all (Some c) reader at (Err (BadLine line)) end s gives = refused_is (asks_of c) (outcome.BadLine Asks line 1) (ends_due c s.fed at (Err line) end s.comes (gives s.fed s.stands))
+brings_all (Some c) reader at (Err (BadLine line)) end s gives = refused_is (asks_from c) (outcome.BadLine Asks line 1) (ends_due c s.fed at (Err line) end s.comes (gives s.fed s.stands))
 brings_all content reader at (Err NoMemory) end s gives = tt
 brings_all content reader at (Err Fault) end s gives = absurd (gives s.fed s.stands)
 brings_all content reader at (Err TooLarge) end s gives = absurd (gives s.fed s.stands)

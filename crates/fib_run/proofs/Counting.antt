@@ -6,18 +6,18 @@ use Rattle.std.proofs.lemmas.List.Sums.{fold-append}
 use Rattle.route_model.specs.Events.{Elem, Event}
 use Rattle.route_model.specs.Choice.{Candidates, after_elem, after_elems, elems_of, elems_after}
 use Rattle.route_model.proofs.Elems.{elems_more}
-use Rattle.printed_model.specs.Rows.{Vrp}
+use Rattle.printed_text.specs.Rows.{Vrp}
 use Rattle.fib_rov.specs.Rov.{left_of}
 use Rattle.fib_rov.proofs.JudgedLists.{left_many, left_more}
 use Rattle.fib_report.specs.declared.run.Invalid.{Invalid}
 use Rattle.std.specs.declared.vec.Vec.{Vec}
-use Rattle.reading_model.specs.Input.{Progress, Stopped, start, input}
-use Rattle.reading_model.specs.Reading.{ReadsEvents}
+use Rattle.wire_model.specs.Input.{Progress, Stopped, start, input}
+use Rattle.wire_model.specs.Reading.{ReadsEvents}
 use Rattle.mrt_read.specs.Standing as reading
 use Rattle.mrt_read.specs.declared.reader.Reader.{Reader}
-use Rattle.fib_run.specs.Counts.{CountsFit, CountsOn, AreFew}
+use Rattle.fib_run.specs.Counts.{CountsFit, CountsOn, AreBounded}
 use Rattle.fib_due.specs.Due.{read_part}
-use Rattle.whole_input.proofs.Cutting.{reads_on}
+use Rattle.mrt_read.proofs.Cutting.{reads_on}
 use Rattle.fib_run.proofs.Feeding.{input_grows}
 use Rattle.fib_run.proofs.FewElems.{events_few}
 use Rattle.fib_run.proofs.FewEvents.{HasRoom, input_within}
@@ -135,7 +135,7 @@ counting_feeds vrps octets piece held now old new events g feeds = record { read
 -- ---- the end
 
 pub counting_end : (vrps : List Vrp) (invalid : Vec Invalid Global) (octets : List ℕ) (held now : Candidates) (reader : Reader) (events records skipped treated : ℕ) → length octets ≤ 2 ^ 36 → Counting vrps octets held reader now events → reading.ReaderTells reader (Ok tt) → records ≡ reader.records → skipped ≡ reader.skipped → treated ≡ reader.treated
-    → AreFew (2 ^ 36) held (record { records = records; skipped = skipped; events = events; treated = treated; invalid = invalid }) now
+    → AreBounded (2 ^ 36) held (record { records = records; skipped = skipped; events = events; treated = treated; invalid = invalid }) now
 counting_end vrps invalid octets held now reader events records skipped treated most g t r k w =
     let room : HasRoom (length octets) g.read [] = whole_room octets g.read (t octets g.read g.stands) in
     record {

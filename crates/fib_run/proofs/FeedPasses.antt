@@ -13,14 +13,14 @@ use Rattle.mrt_read.specs.declared.reader.EventsError.{EventsError}
 use Rattle.mrt_read.specs.declared.reader.EventsError.TheVariants as read
 use Rattle.route_model.specs.Events.{Event}
 use Rattle.route_tries.specs.declared.sizes.TrieFull as short
-use Rattle.step_model.specs.Machine.{World}
-use Rattle.step_model.specs.Script.{Step}
+use Rattle.step_script.specs.Machine.{World}
+use Rattle.step_script.specs.Script.{Step}
 use Rattle.stepper.specs.Runs as runs
 use Rattle.stepper.specs.declared.error.StepError.{StepError}
 use Rattle.stepper.specs.declared.error.StepError.TheVariants as step
-use Rattle.whole_input.specs.Whole as whole_input
-use Rattle.whole_input.specs.declared.whole.WholeError.{WholeError}
-use Rattle.whole_input.specs.declared.whole.WholeError.TheVariants as whole
+use Rattle.mrt_read.specs.Whole as whole_input
+use Rattle.mrt_read.specs.declared.whole.WholeError.{WholeError}
+use Rattle.mrt_read.specs.declared.whole.WholeError.TheVariants as whole
 use Rattle.fib_run.specs.declared.asks.AskError.{AskError}
 use Rattle.fib_run.specs.declared.asks.AskError.TheVariants as ask
 use Rattle.fib_due.specs.declared.outcome.MrtInput.{MrtInput}
@@ -33,9 +33,9 @@ use Rattle.fib_run.specs.declared.state.FeedError.{FeedError}
 use Rattle.fib_run.specs.declared.state.FeedError.TheVariants as feed
 use Rattle.fib_run.specs.Asking.{ask_of_input, ask_refusal}
 use Rattle.fib_run.specs.Loaded.{of_step}
-use Rattle.fib_due.specs.Passes.{AllRead, Content, Judge, ReadUpTo, ReadsOf, StopsReading}
-use Rattle.fib_run.specs.Feeds.{IsNumbered, ask_end, asks_end, feed_end, feeds_end}
-use Rattle.fib_run.specs.Standing.{IsOfLoad, StateTakesAll, of_input, of_read, refusal_at, refusal_of}
+use Rattle.fib_due.specs.Passes.{InputsRead, Content, Judge, ReadUpTo, ReadsOf, StopsReading}
+use Rattle.fib_run.specs.Feeds.{EventNumbered, ask_end, asks_end, feed_end, feeds_end}
+use Rattle.fib_run.specs.Standing.{IsOfLoad, StateTakesAll, feed_of_input, feed_of_read, refusal_at, feed_outcome}
 use Rattle.fib_due.specs.Stepped.{arena_of}
 use Rattle.fib_due.specs.Stepping.{refusal_of_whole}
 use Rattle.fib_due.specs.Stops.{input_of}
@@ -66,7 +66,7 @@ later_short : (content : Content) (Goes : Judge) (n need have arena : ℕ) (befo
 later_short content Goes zero need have arena before now name h made = absurd (omega (arith, h))
 later_short content Goes (suc n) need have arena before now name h made = input_refused content Goes before now Updates Anywhere name made
 
-pub feeds_stop : (content : Content) (Goes : Judge) (before now : Option (List Read)) (which : MrtInput) (name : List ℕ) (error : FeedError) → IsNumbered which error → Makes before now (PassInTime (content name) (Goes (input_of which)) (feeds_end error) name) → Makes before now (StopsReading content Goes ((input_of which, name) ∷ []) (refusal_of which error))
+pub feeds_stop : (content : Content) (Goes : Judge) (before now : Option (List Read)) (which : MrtInput) (name : List ℕ) (error : FeedError) → EventNumbered which error → Makes before now (PassInTime (content name) (Goes (input_of which)) (feeds_end error) name) → Makes before now (StopsReading content Goes ((input_of which, name) ∷ []) (feed_outcome which error))
 feeds_stop content Goes before now which name (feed.Malformed malformed) numbered made = input_refused content Goes before now (input_of which) Anywhere name made
 feeds_stop content Goes before now which name feed.NoMemory numbered made = input_begun content Goes before now (input_of which) name made
 feeds_stop content Goes before now which name feed.Fault numbered made = input_fails content Goes before now (input_of which) name made
@@ -76,18 +76,18 @@ feeds_stop content Goes before now mrt.Updates name (feed.HopsFull n) numbered m
 feeds_stop content Goes before now mrt.Dump name (feed.TrieFull n full) numbered made = absurd (let e : mrt.Dump ≡ mrt.Updates = numbered.0 in cc)
 feeds_stop content Goes before now mrt.Updates name (feed.TrieFull n full) numbered made = later_short content Goes n full.need full.have full.arena before now name numbered.1 made
 
-pub feeds_read : {X : Type 0} (content : Content) (Goes : Judge) (before now : Option (List Read)) (which : MrtInput) (name : List ℕ) (r : Result X FeedError) (s : Result X Outcome) → Makes before now (PassInTime (content name) (Goes (input_of which)) (feed_end r) name) → IfErr r (IsNumbered which) → MatchResult r (λ x. s ≡ Ok x) (λ e. IsErrAnd s (λ o. o ≡ refusal_of which e)) → Makes before now (ReadsOf content Goes ((input_of which, name) ∷ []) s)
+pub feeds_read : {X : Type 0} (content : Content) (Goes : Judge) (before now : Option (List Read)) (which : MrtInput) (name : List ℕ) (r : Result X FeedError) (s : Result X Outcome) → Makes before now (PassInTime (content name) (Goes (input_of which)) (feed_end r) name) → IfErr r (EventNumbered which) → MatchResult r (λ x. s ≡ Ok x) (λ e. IsErrAnd s (λ o. o ≡ feed_outcome which e)) → Makes before now (ReadsOf content Goes ((input_of which, name) ∷ []) s)
 feeds_read content Goes before now which name (Ok x) s made numbered is = rw is (input_read content Goes before now (input_of which) name made)
 feeds_read content Goes before now which name (Err e) s made numbered is =
     let p = err_from_is_err_and s is in
     rw (p.1, p.2) (feeds_stop content Goes before now which name e numbered made)
 
-pub feeds_end_of_input : (error : ReadError) → feeds_end (of_input error) ≡ io.end_by error
+pub feeds_end_of_input : (error : ReadError) → feeds_end (feed_of_input error) ≡ io.end_by error
 feeds_end_of_input pieces.Fault = refl
 feeds_end_of_input pieces.TooLarge = refl
 feeds_end_of_input pieces.NoMemory = refl
 
-pub feeds_end_of_read : (error : EventsError) → feeds_end (of_read error) ≡ Anywhere
+pub feeds_end_of_read : (error : EventsError) → feeds_end (feed_of_read error) ≡ Anywhere
 feeds_end_of_read (read.Malformed malformed) = refl
 feeds_end_of_read read.NoMemory = refl
 
@@ -100,27 +100,27 @@ taken_end which count events old new (feed.Malformed malformed) takes = absurd t
 taken_end which count events old new feed.Fault takes = absurd takes
 taken_end which count events old new feed.TooLarge takes = absurd takes
 
-pub input_numbered : (which : MrtInput) (error : ReadError) → IsNumbered which (of_input error)
+pub input_numbered : (which : MrtInput) (error : ReadError) → EventNumbered which (feed_of_input error)
 input_numbered which pieces.Fault = tt
 input_numbered which pieces.TooLarge = tt
 input_numbered which pieces.NoMemory = tt
 
-pub read_numbered : (which : MrtInput) (error : EventsError) → IsNumbered which (of_read error)
+pub read_numbered : (which : MrtInput) (error : EventsError) → EventNumbered which (feed_of_read error)
 read_numbered which (read.Malformed malformed) = tt
 read_numbered which read.NoMemory = tt
 
-pub load_numbered : {X : Type 0} (which : MrtInput) (event : ℕ) (error : EngineError) (r : FeedError) → r ≡ refusal_at event error → 1 ≤ event → ((t : short.TrieFull) → IsErrOf {T = X} (Err error) (engine.TrieFull t) → ⊥) → IsNumbered which r
+pub load_numbered : {X : Type 0} (which : MrtInput) (event : ℕ) (error : EngineError) (r : FeedError) → r ≡ refusal_at event error → 1 ≤ event → ((t : short.TrieFull) → IsErrOf {T = X} (Err error) (engine.TrieFull t) → ⊥) → EventNumbered which r
 load_numbered which event engine.HopsFull r e first fits = rw e first
 load_numbered which event (engine.TrieFull t) r e first fits = absurd (fits t refl)
 load_numbered which event engine.NoMemory r e first fits = rw e tt
 
-pub update_numbered : (which : MrtInput) (event : ℕ) (error : EngineError) (r : FeedError) → which ≡ mrt.Updates → r ≡ refusal_at event error → 1 ≤ event → IsNumbered which r
+pub update_numbered : (which : MrtInput) (event : ℕ) (error : EngineError) (r : FeedError) → which ≡ mrt.Updates → r ≡ refusal_at event error → 1 ≤ event → EventNumbered which r
 update_numbered which event engine.HopsFull r is e first = rw e first
 update_numbered which event (engine.TrieFull t) r is e first = rw e (is, first)
 update_numbered which event engine.NoMemory r is e first = rw e tt
 
 -- the load is refused once the dump was read to its end
-pub load_stops : (content : Content) (Goes : Judge) (before now : Option (List Read)) (name : List ℕ) (error : FeedError) → IsOfLoad error → Makes before now (AllRead content Goes ((Dump, name) ∷ [])) → Makes before now (StopsReading content Goes ((Dump, name) ∷ []) (refusal_of mrt.Dump error))
+pub load_stops : (content : Content) (Goes : Judge) (before now : Option (List Read)) (name : List ℕ) (error : FeedError) → IsOfLoad error → Makes before now (InputsRead content Goes ((Dump, name) ∷ [])) → Makes before now (StopsReading content Goes ((Dump, name) ∷ []) (feed_outcome mrt.Dump error))
 load_stops content Goes before now name (feed.TrieFull n full) of made = text_refused content Goes before now Dump name made
 load_stops content Goes before now name feed.NoMemory of made = out_of_memory content Goes before now ((Dump, name) ∷ []) made
 load_stops content Goes before now name (feed.HopsFull n) of made = absurd of
@@ -128,7 +128,7 @@ load_stops content Goes before now name (feed.Malformed malformed) of made = abs
 load_stops content Goes before now name feed.Fault of made = absurd of
 load_stops content Goes before now name feed.TooLarge of made = absurd of
 
-pub events_stop : (content : Content) (Goes : Judge) (before now : Option (List Read)) (name : List ℕ) (error : WholeError) → Makes before now (PassInTime (content name) (Goes Updates) (whole_input.end_by error) name) → Makes before now (StopsReading content Goes ((Updates, name) ∷ []) (refusal_of_whole error))
+pub events_stop : (content : Content) (Goes : Judge) (before now : Option (List Read)) (name : List ℕ) (error : WholeError) → Makes before now (PassInTime (content name) (Goes Updates) (whole_input.pass_end_by error) name) → Makes before now (StopsReading content Goes ((Updates, name) ∷ []) (refusal_of_whole error))
 events_stop content Goes before now name (whole.Malformed malformed) made = input_refused content Goes before now Updates Anywhere name made
 events_stop content Goes before now name whole.NoMemory made = input_begun content Goes before now Updates name made
 events_stop content Goes before now name whole.Fault made = input_fails content Goes before now Updates name made
@@ -140,11 +140,11 @@ events_read content Goes before now name (Err e) s made is =
     let p = err_from_is_err_and s is in
     rw (p.1, p.2) (events_stop content Goes before now name e made)
 
-updates_ended : (content : Content) (Goes : Judge) (before now : Option (List Read)) (name : List ℕ) → Makes before now (AllRead content Goes ((Updates, name) ∷ [])) → Makes before now (ReadUpTo content Goes ((Updates, name) ∷ []) Updates Anywhere)
-updates_ended content Goes before now name made = makes_as before now (AllRead content Goes ((Updates, name) ∷ [])) (ReadUpTo content Goes ((Updates, name) ∷ []) Updates Anywhere) made (one_ended_early content Goes Updates name)
+updates_ended : (content : Content) (Goes : Judge) (before now : Option (List Read)) (name : List ℕ) → Makes before now (InputsRead content Goes ((Updates, name) ∷ [])) → Makes before now (ReadUpTo content Goes ((Updates, name) ∷ []) Updates Anywhere)
+updates_ended content Goes before now name made = makes_as before now (InputsRead content Goes ((Updates, name) ∷ [])) (ReadUpTo content Goes ((Updates, name) ∷ []) Updates Anywhere) made (one_ended_early content Goes Updates name)
 
 -- a step is refused once the updates were read to their end
-pub step_stops_reading : (content : Content) (Goes : Judge) (w : World) (script : List Step) (before now : Option (List Read)) (name : List ℕ) (error : StepError) → runs.EndsBy w script error → Makes before now (AllRead content Goes ((Updates, name) ∷ [])) → Makes before now (StopsReading content Goes ((Updates, name) ∷ []) (of_step error))
+pub step_stops_reading : (content : Content) (Goes : Judge) (w : World) (script : List Step) (before now : Option (List Read)) (name : List ℕ) (error : StepError) → runs.StepsEndBy w script error → Makes before now (InputsRead content Goes ((Updates, name) ∷ [])) → Makes before now (StopsReading content Goes ((Updates, name) ∷ []) (of_step error))
 step_stops_reading content Goes w script before now name (step.HopsFull n) (front, rest, rows, s, e, run, p) made =
     subst (λ k. Makes before now (StopsReading content Goes ((Updates, name) ∷ []) (HopsFull k))) (sym p.1) (updates_ended content Goes before now name made)
 step_stops_reading content Goes w script before now name (step.TrieFull n f t) (front, rest, rows, s, e, run, p) made =

@@ -4,22 +4,22 @@ use Rattle.std.proofs.lemmas.List.Sums.{fold-append}
 use Rattle.route_model.specs.Events.{Elem, Event, Peer}
 use Rattle.route_model.specs.Choice.{Candidates, after_elem, after_elems, elems_after}
 use Rattle.route_model.proofs.Elems.{elems_more}
-use Rattle.printed_model.specs.Rows.{Announced, Vrp}
+use Rattle.printed_text.specs.Rows.{Announced, Vrp}
 use Rattle.fib_rov.specs.Rov.{invalid_in, left_of}
 use Rattle.fib_rov.proofs.JudgedLists.{invalid_more, left_more}
 use Rattle.octet_fields.specs.Field.{◌>>=◌, steps, until_end}
 use Rattle.wire_model.specs.declared.rule.Rule.{Rule}
 use Rattle.wire_model.specs.Rules.{rule_number}
-use Rattle.reading_model.specs.Update.{Said}
+use Rattle.wire_model.specs.Update.{Said}
 use Rattle.wire_model.specs.Record.{Record, record_at}
-use Rattle.reading_model.specs.Input.{Progress, Stopped, start, record_in, counted, or_stop, read_record, input}
-use Rattle.reading_model.specs.Reading.{ReadsEvents}
-use Rattle.mrt_frame.specs.declared.Malformed as code_malformed
+use Rattle.wire_model.specs.Input.{Progress, Stopped, start, record_in, counted, or_stop, read_record, input}
+use Rattle.wire_model.specs.Reading.{ReadsEvents}
+use Rattle.mrt_read.specs.declared.framer.Malformed as code_malformed
 use Rattle.mrt_read.specs.Standing as reading
 use Rattle.mrt_read.specs.declared.reader.Reader.{Reader}
-use Rattle.whole_input.specs.Cuts.{is_small, is_cut}
-use Rattle.whole_input.proofs.Arriving.{Comes}
-use Rattle.whole_input.proofs.Cutting.{reads_on}
+use Rattle.mrt_read.specs.Cuts.{is_small, is_cut}
+use Rattle.mrt_read.proofs.Arriving.{Comes}
+use Rattle.mrt_read.proofs.Cutting.{reads_on}
 use Rattle.fib_due.specs.declared.outcome.MrtInput.{MrtInput}
 use Rattle.fib_due.specs.declared.outcome.Outcome.TheVariants as outcome
 use Rattle.fib_run.specs.declared.state.State.{State}
@@ -27,14 +27,14 @@ use Rattle.fib_run.specs.declared.state.FeedError.{FeedError}
 use Rattle.fib_run.specs.declared.state.FeedError.TheVariants.{Malformed, HopsFull, TrieFull, NoMemory, Fault, TooLarge}
 use Rattle.std.specs.Prelude.{IfSome, Bool, true, false, not, ◌&&◌}
 use Rattle.fib_io.specs.Pieces.{octets_read, octets_from}
-use Rattle.reading_model.proofs.Reading.{reading_feeds}
+use Rattle.wire_model.proofs.Reading.{reading_feeds}
 use Rattle.fib_due.specs.declared.outcome.Outcome.{Outcome}
 use Rattle.fib_due.specs.Stops.{Stop, Refused, IsDueIfTold, FailsDue, told_content, all_records, bad_record, whole_records, unless_stopped, outcome_at, event_in, input_of}
 use Rattle.fib_due.specs.Refusals.{Limits, ManyHops, Refusal, Short, stop_at, too_much}
 use Rattle.fib_run.proofs.Refusing.{stop_in_front}
 use Rattle.route_tries.specs.Sizes.{Sizes, shortage_as}
 use Rattle.fib_due.specs.Due.{Feed, read_part, elems_in, feed_in, feed_of}
-use Rattle.fib_run.specs.Standing.{StateStands, IsStopped, StateTakesAll, next_elems, refusal_of}
+use Rattle.fib_run.specs.Standing.{StateStands, IsStopped, StateTakesAll, next_elems, feed_outcome}
 
 -- this much of the input was read, the state has what it brings, and the announcements of it that are Invalid were noted
 pub record Going (vrps : List Vrp) (which : MrtInput) (limits : Limits) (before : List Elem) (octets : List ℕ) (reader : Reader) (state : State) (events : ℕ) (rows : List (Announced × Vrp)) : Type 0 where
@@ -147,7 +147,7 @@ refused_stop vrps which limits before c fed at old new mid state events more n r
     stop_due vrps which limits before c (reading.reader_left new ++ octets_from at c) next n r reads now
 
 pub refused_hops : {rows : List (Announced × Vrp)} (vrps : List Vrp) (which : MrtInput) (limits : Limits) (before : List Elem) (o : Option (List ℕ)) (fed : List ℕ) (at : ℕ) (old new : Reader) (mid state : State) (events : ℕ) (more : List Event) (error : FeedError) → IfSome o (Comes fed at) → Going vrps which limits before fed old mid events rows → reading.TakesEvents old more new → StateTakesAll which events (left_of vrps more) mid (Err error) state
-    → FailsDue (refusal_of which error) (due_of limits.sizes vrps which before o)
+    → FailsDue (feed_outcome which error) (due_of limits.sizes vrps which before o)
 refused_hops vrps which limits before None fed at old new mid state events more (HopsFull n) comes g t taken = tt
 refused_hops vrps which limits before (Some c) fed at old new mid state events more (HopsFull n) comes g t taken =
     refused_is (feed_of limits.sizes vrps which before c) (outcome.HopsFull (event_in which n)) (refused_stop vrps which limits before c fed at old new mid state events more n ManyHops comes g t (taken limits before (elems_in vrps before g.read) g.counted g.held))

@@ -11,7 +11,7 @@ use Rattle.std.proofs.lemmas.List.Sums.{fold-append}
 use Rattle.table_model.specs.Address.{same_prefix}
 use Rattle.route_model.proofs.Places.{place_key, same_peer_is}
 use Rattle.route_model.specs.Events.{Peer, Event, Announce, Withdraw, Down, Elem, same_peer}
-use Rattle.route_model.specs.Choice.{Place, Offer, Candidates, same_place, place_cmp, after_elem, after_elems, cut_of, elems_of, elems_after}
+use Rattle.route_model.specs.Choice.{Place, PathAttrs, Candidates, same_place, place_cmp, after_elem, after_elems, cut_of, elems_of, elems_after}
 
 put_few : {K X : Type 0} (R : K → K → Ordering) (es : List (K × X)) (k : K) (v : X) → length (insert_entry R es k v) ≤ length es + 1
 put_few R [] k v = omega arith
@@ -32,7 +32,7 @@ cut_few test (e ∷ es) = by_test (test e.0) (cut_few test es)
 
 -- ---- a session that is lost
 
-abbrev of_peer : Peer → Place × Offer → Bool
+abbrev of_peer : Peer → Place × PathAttrs → Bool
 of_peer peer c = same_peer peer c.0.via.peer
 
 another_peer : (peer q r : Peer) → same_peer peer q ≡ true → same_peer peer r ≡ false → same_peer q r ≡ false
@@ -43,7 +43,7 @@ first_false true b c e = ap (λ x. x && c) e
 first_false false b c e = refl
 
 -- a peer's cuts pass over another peer's candidate
-cuts_pass : (peer : Peer) (c : Place × Offer) (ds held : Candidates) → of_peer peer c ≡ false → after_elems (c ∷ held) (map cut_of (filter (of_peer peer) ds)) ≡ c ∷ after_elems held (map cut_of (filter (of_peer peer) ds))
+cuts_pass : (peer : Peer) (c : Place × PathAttrs) (ds held : Candidates) → of_peer peer c ≡ false → after_elems (c ∷ held) (map cut_of (filter (of_peer peer) ds)) ≡ c ∷ after_elems held (map cut_of (filter (of_peer peer) ds))
 cuts_pass peer c [] held e = refl
 cuts_pass peer c (d ∷ ds) held e = by_test (of_peer peer d) refl (cuts_pass peer c ds)
   where

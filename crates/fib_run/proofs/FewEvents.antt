@@ -12,17 +12,17 @@ use Rattle.route_model.specs.Events.{Peer, Withdraw, Down}
 use Rattle.octet_fields.specs.Field.{◌>>=◌, refuse, octet_at, octets_at, number_at, all_read, one_more, times, steps, until_end}
 use Rattle.wire_model.specs.declared.place.Place.{Place}
 use Rattle.wire_model.specs.declared.place.Place.TheVariants.{Rib, Update}
-use Rattle.reading_model.specs.declared.session.Session.{Session}
-use Rattle.reading_model.specs.declared.session.Session.TheVariants.{StateChange, Message}
+use Rattle.wire_model.specs.declared.session.Session.{Session}
+use Rattle.wire_model.specs.declared.session.Session.TheVariants.{StateChange, Message}
 use Rattle.wire_model.specs.declared.rule.Rule.{Rule}
 use Rattle.wire_model.specs.declared.rule.Rule.TheVariants.{HeaderCut, BodyCut, TooLong, PrefixLength, RibForm, AttributeCut, AttributeValue, SecondMp, SessionForm, MessageLength, UpdateLengths}
 use Rattle.wire_model.specs.Wire.{octets_for, address_at, prefix_at, Nlri, id_size, nlri_at, nlris, family_of, family_at}
 use Rattle.wire_model.specs.Attribute.{ReachAttr, Unreached, Found, nothing_found, is_hop_length, next_hop_at, rib_hop, reach_of_rib, reach_in, unreach_in, judged, keep_first, with_as_path, next_hop_in, with_next_hop, with_reach, with_unreach, with_value, is_second, attribute_at, Listed, attributes}
-use Rattle.reading_model.specs.Rib.{event_of, indexed, rib_entry_at, rib, peer_table}
-use Rattle.reading_model.specs.Update.{Said, said, via_of, withdrawn, routes, unreach_events, reach_events, update, message, is_lost, state_change, session_of, session_says, session_behind, session_in, bgp4mp}
+use Rattle.wire_model.specs.Rib.{event_of, indexed, rib_entry_at, rib, peer_table}
+use Rattle.wire_model.specs.Update.{Said, said, via_of, withdrawn, routes, unreach_events, reach_events, update, message, is_lost, state_change, session_of, session_says, session_behind, session_in, bgp4mp}
 use Rattle.wire_model.specs.Record.{Record, most_length, record_at}
-use Rattle.reading_model.specs.Input.{Progress, Stopped, start, rib_behind, is_dump, is_session, rib_of, record_behind, record_in, counted, or_stop, read_record, input}
-use Rattle.reading_model.proofs.Told.{then_any, then_meets}
+use Rattle.wire_model.specs.Input.{Progress, Stopped, start, rib_behind, is_dump, is_session, rib_of, said_behind, record_in, counted, or_stop, read_record, input}
+use Rattle.wire_model.proofs.Told.{then_any, then_meets}
 
 -- ---- what a field uses up
 
@@ -319,7 +319,7 @@ rib_behind_within : (peers : Option (List Peer)) (ids : Bool) (family : Family) 
 rib_behind_within (Some peers) ids family body = rib_within peers ids family body
 rib_behind_within None ids family body = tt
 
-record_behind_within : (peers : Option (List Peer)) (r : Record) (held : Option (Bool × Family)) → IfOk (record_behind peers r held) (AtMost (length r.body))
+record_behind_within : (peers : Option (List Peer)) (r : Record) (held : Option (Bool × Family)) → IfOk (said_behind peers r held) (AtMost (length r.body))
 record_behind_within peers r (Some (ids, family)) = then_meets (rib_behind peers ids family r.body) _ (λ events. length events ≤ length r.body) _ (rib_behind_within peers ids family r.body) (λ events few. omega (arith, few))
 record_behind_within peers r None = either (is_session r) _ _ _ (bgp4mp_within r.subtype (r.kind == 17) r.body) tt
 
@@ -327,7 +327,7 @@ record_within : (peers : Option (List Peer)) (r : Record) → IfOk (record_in pe
 unfolding record_in
 record_within peers r =
     either (is_dump 1 r) _ _ _ (then_any (peer_table r.body) _ _ (λ table. omega arith))
-    (then_meets (record_behind peers r (rib_of r)) _ (AtMost (length r.body)) _ (record_behind_within peers r (rib_of r)) (λ words few. few))
+    (then_meets (said_behind peers r (rib_of r)) _ (AtMost (length r.body)) _ (record_behind_within peers r (rib_of r)) (λ words few. few))
 
 record_leaves : (octets : List ℕ) → IfOk (record_at octets) (λ x. length x.0.body + length x.1 < length octets)
 unfolding record_at

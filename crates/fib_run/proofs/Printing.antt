@@ -17,15 +17,15 @@ use Rattle.kept_model.specs.Feed.{entries_of, hops_after}
 use Rattle.kept_model.proofs.Numbers.{hops_distinct, entries_have}
 use Rattle.kept_model.proofs.Tables.{entries_sorted}
 use Rattle.fib_addr.specs.Hops.{most_hops}
-use Rattle.printed_model.specs.Rows.{PrintedRow, IsRow, text_of as rows_text}
-use Rattle.printed_model.specs.Numbered.{of_route, of_least, of_cert, IsOther, Proves, rows_with}
-use Rattle.printed_model.specs.Used.{printed_in, used_of}
-use Rattle.printed_model.proofs.Few.{printed_read}
-use Rattle.printed_model.proofs.Renamed.{printed_proves}
+use Rattle.printed_text.specs.Rows.{PrintedRow, IsRow, text_of as rows_text}
+use Rattle.printed_text.specs.Numbered.{of_route, of_least, of_cert, IsOther, Proves, rows_with}
+use Rattle.printed_text.specs.Used.{printed_in, used_of}
+use Rattle.printed_text.proofs.Few.{printed_read}
+use Rattle.printed_text.proofs.Renamed.{printed_proves}
 use Rattle.fib_report.specs.Views.{Answer, Told}
 use Rattle.fib_report.specs.Rows.{change_row, of_answer, of_change, of_invalid, of_moves, table_entry_row, printed_rows, report_rows}
 use Rattle.fib_words.specs.Commands.{Named, Asked, Run}
-use Rattle.fib_run.specs.declared.report.Fed.{Fed}
+use Rattle.fib_run.specs.declared.report.InputCounts.{InputCounts}
 use Rattle.fib_run.specs.declared.state.State.{State}
 use Rattle.fib_due.specs.Refusals.{Limits}
 use Rattle.fib_due.specs.Due.{Feed, Printed, kept_of, output_at, printed, ran, run_at, printed_text, with_text}
@@ -79,7 +79,7 @@ all_elems : (xs ys : List Elem) → AllByRecursion IsElem xs → AllByRecursion 
 all_elems [] ys a b = b
 all_elems (x ∷ xs) ys a b = (a.0, all_elems xs ys a.1 b)
 
-pub checks_yes : (limits : Limits) (load updates : Feed) (fed : Fed) (state : State) (asks numbered : List Address) (run : Told) (text : List ℕ) → IsFed limits load updates fed state → run ≡ (printed limits load updates asks).told
+pub checks_yes : (limits : Limits) (load updates : Feed) (fed : InputCounts) (state : State) (asks numbered : List Address) (run : Told) (text : List ℕ) → IsFed limits load updates fed state → run ≡ (printed limits load updates asks).told
     → numbered ≡ state.engine.hops → AllByRecursion IsRow (printed_rows numbered run) → text ≡ printed_text (printed limits load updates asks) → ChecksYes text
 checks_yes limits load updates fed state asks numbered run text f r n proper e =
     let elems : List Elem = load.elems ++ updates.elems in

@@ -6,9 +6,9 @@ use Rattle.octet_fields.specs.Field.{◌>>=◌}
 use Rattle.table_model.specs.Address.{Address}
 use Rattle.fib_addr.specs.Text.{number_below}
 use Rattle.fib_addr.proofs.Numbers.{number_is}
-use Rattle.printed_model.specs.Reading.{address_field, bad_number, next_field, one_field, or_why}
-use Rattle.printed_model.specs.Texts.{BadLine, line_texts}
-use Rattle.step_model.specs.Script.{Step, opens, goes, prepares, stores, ends, cancels, bare, cursor_field, is_space, step_of, step_in, steps_after, script_in, with_step}
+use Rattle.printed_text.specs.Reading.{address_field, bad_number, next_field, one_field, or_why}
+use Rattle.printed_text.specs.Texts.{BadLine, line_texts}
+use Rattle.step_script.specs.Script.{Step, opens, goes, prepares, stores, ends, cancels, fieldless, cursor_field, is_space, step_of, step_in, steps_after, script_in, with_step}
 use Rattle.stepper.specs.Runs.{IsPrinted, ArePrinted}
 
 -- the step of a line, if it has one, has a number below 128
@@ -19,7 +19,7 @@ Fine (Err why) = Unit {0}
 abbrev as_step : Step → Result Step ℕ
 as_step step = Ok step
 
-bare_fine : (step : Step) → IsPrinted step → (fields : List (List ℕ)) → Fine (bare step fields)
+bare_fine : (step : Step) → IsPrinted step → (fields : List (List ℕ)) → Fine (fieldless step fields)
 bare_fine step p [] = p
 bare_fine step p (x ∷ more) = tt
 

@@ -4,12 +4,12 @@ use Rattle.std.specs.Prelude.{◌⊎◌, option_map}
 use Rattle.std.specs.declared.vec.Vec.{Vec}
 use Rattle.octet_fields.specs.Field.{◌>>=◌}
 use Rattle.route_model.specs.Events.{Event}
-use Rattle.step_model.specs.Script.{Step}
-use Rattle.step_model.specs.Machine.{World}
+use Rattle.step_script.specs.Script.{Step}
+use Rattle.step_script.specs.Machine.{World}
 use Rattle.stepper.specs.declared.error.StepError.{StepError}
 use Rattle.stepper.specs.declared.error.StepError.TheVariants as step
-use Rattle.stepper.specs.Runs.{EndsBy}
-use Rattle.step_world.specs.Stepping.{Stepping, IsTextOf, world_of}
+use Rattle.stepper.specs.Runs.{StepsEndBy}
+use Rattle.step_run.specs.Stepping.{Stepping, IsTextOf, world_of}
 use Rattle.fib_io.specs.Causes.{Rose}
 use Rattle.fib_words.specs.Commands.{Asked, Named, NamedMoves, NamedSame, NamedSave, NamedSteps, Run, Check, Make, Steps, Same, Save, Moves}
 use Rattle.fib_due.specs.declared.reply.Reply as code_reply
@@ -170,7 +170,7 @@ is_of_step (step.HopsFull n) = tt
 is_of_step (step.TrieFull n f t) = tt
 is_of_step step.NoMemory = tt
 
-pub early_of : (script : List Step) (w : World) (e : StepError) → EndsBy w script e → EndsEarly (record { script = script; world = w }) (of_step e)
+pub early_of : (script : List Step) (w : World) (e : StepError) → StepsEndBy w script e → EndsEarly (record { script = script; world = w }) (of_step e)
 early_of script w (step.HopsFull n) c = c
 early_of script w (step.TrieFull n f t) (front, rest, rows, s, e, runs, p) = (front, rest, rows, s, e, runs, (f, t.arena, p.0, refl, p.1))
 early_of script w step.NoMemory c = tt

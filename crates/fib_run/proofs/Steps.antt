@@ -21,8 +21,8 @@ use Rattle.kept_model.proofs.Merged.{first_new}
 use Rattle.kept_model.specs.Feed.{hops_after, entries_of, at_event}
 use Rattle.kept_model.proofs.Numbers.{hops_more}
 use Rattle.kept_model.specs.Kept.{kept_at_load}
-use Rattle.steady_feed.specs.Told.{steady_if}
-use Rattle.fewest_feed.specs.Reported.{counted_at, first_changes, moves_from, moves_of, told_from, told_of as event_told}
+use Rattle.kept_model.specs.Told.{steady_if}
+use Rattle.moves_model.specs.Reported.{counted_at, first_changes, moves_from, moves_of, told_from, told_of as event_told}
 use Rattle.kept_model.specs.Kept.{changed_at}
 use Rattle.kept_model.proofs.FeedSums.{snapshot_placed}
 use Rattle.fib_addr.specs.Views.{entry_as}
@@ -32,15 +32,15 @@ use Rattle.fib_due.specs.declared.outcome.MrtInput.TheVariants.{Dump, Updates}
 use Rattle.fib_run.specs.declared.state.State.{State}
 use Rattle.fib_run.specs.Told.{changes_as, moves_told, told_changes, told_moves}
 use Rattle.fib_report.specs.Views.{moves_as}
-use Rattle.fib_engine.specs.Held.{routes_in}
-use Rattle.fib_engine.specs.Stands.{EndsLoad, IsLoading, IsShortFor, IsTooMany, Loads, Stands, Takes, moves_after, routes_after}
+use Rattle.fib_engine.specs.Held.{engine_routes}
+use Rattle.fib_engine.specs.Stands.{EndsLoad, IsLoading, IsShortFor, IsTooMany, Loads, EngineStands, TakesElem, moves_after, routes_after}
 use Rattle.route_tries.specs.Sizes.{shortage, shortage_as}
 use Rattle.route_tries.specs.declared.sizes.TrieFull.{TrieFull}
 use Rattle.fib_due.specs.Refusals.{Limits, ManyHops, Refusal, Short, routes_by, stop_at, too_much}
 use Rattle.fib_run.proofs.Refusing.{dump_fits, is_short, many_hops, stop_behind, stop_in_front, stop_none, stop_one, updates_fit}
 use Rattle.fib_engine.specs.declared.error.EngineError.{EngineError}
 use Rattle.fib_engine.specs.declared.error.EngineError.TheVariants as engine
-use Rattle.fib_due.specs.Due.{changes_of, kept_of, moves_of as run_moves}
+use Rattle.fib_due.specs.Due.{run_changes, kept_of, run_moves}
 use Rattle.fib_due.proofs.Keeping.{changes_grow, moves_grow, moves_if}
 use Rattle.fib_run.specs.Standing.{EndsShort, IsOfLoad, refusal_at, StateStands, IsStopped, StateTakes, StateTakesAll, next_elems}
 
@@ -139,10 +139,10 @@ loads_one event elem old new l loading n f y same none = λ limits before done c
 }
 
 -- tries of the routes after an elementary event that was taken have room
-room_next : (limits : Limits) (before done : List Elem) (elem : Elem) (old new : State) → StateStands Updates limits before done old → Takes elem old.engine new.engine → shortage new.engine.sizes (routes_in new.engine) ≡ None → shortage limits.sizes (routes_by ((before ++ done) ++ elem ∷ [])) ≡ None
+room_next : (limits : Limits) (before done : List Elem) (elem : Elem) (old new : State) → StateStands Updates limits before done old → TakesElem elem old.engine new.engine → shortage new.engine.sizes (engine_routes new.engine) ≡ None → shortage limits.sizes (routes_by ((before ++ done) ++ elem ∷ [])) ≡ None
 room_next limits before done elem old new s t room =
-    let routes : routes_in new.engine ≡ routes_after elem old.engine = ap (λ hs. entries_of hs new.engine.candidates) t.hops ∙ ap (entries_of (hops_after old.engine.hops (elem ∷ []))) t.candidates in
-    ap (shortage limits.sizes) (routes_next Updates limits before done elem old s ∙ sym routes) ∙ (ap (λ z. shortage z (routes_in new.engine)) (sym (t.sizes ∙ s.sizes_are)) ∙ room)
+    let routes : engine_routes new.engine ≡ routes_after elem old.engine = ap (λ hs. entries_of hs new.engine.candidates) t.hops ∙ ap (entries_of (hops_after old.engine.hops (elem ∷ []))) t.candidates in
+    ap (shortage limits.sizes) (routes_next Updates limits before done elem old s ∙ sym routes) ∙ (ap (λ z. shortage z (engine_routes new.engine)) (sym (t.sizes ∙ s.sizes_are)) ∙ room)
 
 -- a list that was changed in place, all of it, is what its items became
 pub all_changed : {A : Type 0} (n : ℕ) (now before : List A) → length now ≡ n → take n (now ++ drop (length now) before) ≡ now
@@ -153,8 +153,8 @@ abbrev pub told_of : Elem → State → List Change
 told_of elem old = event_told old.engine.fewest old.steady old.engine.every (hops_after old.engine.hops (elem ∷ [])) (old.engine.events + 1) old.engine.candidates old.engine.table elem
 
 -- an elementary event of updates
-pub takes_one : (event : ℕ) (elem : Elem) (old new : State) (changes : List Change) → Takes elem old.engine new.engine → ((load elems : List Elem) → Stands load elems old.engine → Stands load (elems ++ elem ∷ []) new.engine) → (IsTooMany elem old.engine → ⊥)
-    → shortage new.engine.sizes (routes_in new.engine) ≡ None → new.fewest ≡ old.fewest → new.steady ≡ old.steady → changes ≡ told_of elem old → told_changes new ≡ told_changes old ++ at_event event changes → told_moves new ≡ told_moves old ++ moves_told old.fewest event new.engine.moves → StateTakes {T = Unit {0}} Updates event (elem ∷ []) old (Ok tt) new
+pub takes_one : (event : ℕ) (elem : Elem) (old new : State) (changes : List Change) → TakesElem elem old.engine new.engine → ((load elems : List Elem) → EngineStands load elems old.engine → EngineStands load (elems ++ elem ∷ []) new.engine) → (IsTooMany elem old.engine → ⊥)
+    → shortage new.engine.sizes (engine_routes new.engine) ≡ None → new.fewest ≡ old.fewest → new.steady ≡ old.steady → changes ≡ told_of elem old → told_changes new ≡ told_changes old ++ at_event event changes → told_moves new ≡ told_moves old ++ moves_told old.fewest event new.engine.moves → StateTakes {T = Unit {0}} Updates event (elem ∷ []) old (Ok tt) new
 takes_one event elem old new changes t stands n room f y c grown moved = λ limits before done counted s. record {
   engine = stands before done s.engine;
   every_is = t.every ∙ s.every_is;
@@ -173,17 +173,17 @@ takes_one event elem old new changes t stands n room f y c grown moved = λ limi
   table_on : (limits : Limits) (before done : List Elem) → StateStands Updates limits before done old → old.engine.table ≡ kept_of limits.fewest limits.every old.engine.hops before done
   table_on limits before done s = s.engine.table ∙ (ap (λ b. kept_of b old.engine.every old.engine.hops before done) s.fewest_is ∙ ap (λ k. kept_of limits.fewest k old.engine.hops before done) s.every_is)
 
-  all : (limits : Limits) (before done : List Elem) → event ≡ length (done ++ elem ∷ []) → StateStands Updates limits before done old → told_changes new ≡ changes_of limits.fewest limits.steady limits.every new.engine.hops before (done ++ elem ∷ [])
+  all : (limits : Limits) (before done : List Elem) → event ≡ length (done ++ elem ∷ []) → StateStands Updates limits before done old → told_changes new ≡ run_changes limits.fewest limits.steady limits.every new.engine.hops before (done ++ elem ∷ [])
   all limits before done counted s =
       let told : Bool → Bool → ℕ → List Change = λ f b k. event_told f b k (hops_after old.engine.hops (elem ∷ [])) (old.engine.events + 1) old.engine.candidates old.engine.table elem in
       let by : changes ≡ told limits.fewest limits.steady limits.every = c ∙ (ap (λ g. told g old.steady old.engine.every) s.fewest_is ∙ (ap (λ b. told limits.fewest b old.engine.every) s.steady_is ∙ ap (told limits.fewest limits.steady) s.every_is)) in
-      let first = changes_of limits.fewest limits.steady limits.every old.engine.hops before done in
+      let first = run_changes limits.fewest limits.steady limits.every old.engine.hops before done in
       grown
       ∙ (ap (λ cs. cs ++ at_event event changes) s.changes
       ∙ (ap (λ cs. first ++ at_event event cs) by
       ∙ (ap (λ m. first ++ at_event m (told limits.fewest limits.steady limits.every)) (counted_on limits before done counted s)
       ∙ (changes_grow limits.fewest limits.every before done elem old.engine.hops old.engine.candidates old.engine.table old.engine.events s.engine.hops s.engine.candidates (table_on limits before done s) s.engine.events limits.steady
-      ∙ ap (λ hs. changes_of limits.fewest limits.steady limits.every hs before (done ++ elem ∷ [])) (sym t.hops)))))
+      ∙ ap (λ hs. run_changes limits.fewest limits.steady limits.every hs before (done ++ elem ∷ [])) (sym t.hops)))))
 
   -- the row of the event, if it has one
   row_is : (b : Bool) → b ≡ old.engine.fewest → (at : Option Prefix) (n : ℕ) (cs : List Change) → moves_told b n (option_map (λ p. length cs) at) ≡ moves_if b (counted_at at n cs)
@@ -221,7 +221,7 @@ unfolding between IsStrictlySortedBy
 between_none [] s = refl
 between_none (e ∷ T) s = first_new e [] T tt s.0 ∙ ap (λ cs. Add e.0 e.1 ∷ cs) (between_none T s.1)
 
-pub load_ended : (limits : Limits) (load : List Elem) (old new : State) → EndsLoad old.engine new.engine → ((load : List Elem) → IsLoading load old.engine → Stands load [] new.engine) → new.fewest ≡ old.fewest → new.steady ≡ old.steady
+pub load_ended : (limits : Limits) (load : List Elem) (old new : State) → EndsLoad old.engine new.engine → ((load : List Elem) → IsLoading load old.engine → EngineStands load [] new.engine) → new.fewest ≡ old.fewest → new.steady ≡ old.steady
     → (IsStrictlySortedBy prefix_cmp (keys_of new.engine.table) → additions (map entry_as new.added.items) ≡ steady_if new.steady (additions new.engine.table)) → new.changes.items ≡ old.changes.items → new.moves.items ≡ old.moves.items
     → StateStands Dump limits [] load old → StateStands Updates limits load [] new
 unfolding stop_at told_from moves_from
@@ -261,12 +261,12 @@ load_ended limits load old new e stands f y there same kept s = record {
   none = ap changes_as same ∙ last_none (at_event 0 (additions (map entry_as old.added.items))) (changes_as old.changes.items) s.changes
 
 -- its end isn't reached
-pub load_short : (limits : Limits) (load : List Elem) (old : State) (full : TrieFull) → StateStands Dump limits [] load old → IsShortFor old.engine (routes_in old.engine) full → shortage limits.sizes (routes_by load) ≡ Some (shortage_as full)
+pub load_short : (limits : Limits) (load : List Elem) (old : State) (full : TrieFull) → StateStands Dump limits [] load old → IsShortFor old.engine (engine_routes old.engine) full → shortage limits.sizes (routes_by load) ≡ Some (shortage_as full)
 load_short limits load old full s short =
-    let routes : routes_in old.engine ≡ routes_by load = ap (λ hs. entries_of hs old.engine.candidates) s.engine.hops ∙ ap (entries_of (hops_after [] load)) s.engine.candidates in
-    ap (shortage limits.sizes) (sym routes) ∙ (ap (λ z. shortage z (routes_in old.engine)) (sym s.sizes_are) ∙ short)
+    let routes : engine_routes old.engine ≡ routes_by load = ap (λ hs. entries_of hs old.engine.candidates) s.engine.hops ∙ ap (entries_of (hops_after [] load)) s.engine.candidates in
+    ap (shortage limits.sizes) (sym routes) ∙ (ap (λ z. shortage z (engine_routes old.engine)) (sym s.sizes_are) ∙ short)
 
-pub ends_short : {X : Type 0} (limits : Limits) (load : List Elem) (old : State) (error : EngineError) (r : FeedError) → r ≡ refusal_at 0 error → (IsErrOf {T = X} (Err error) engine.HopsFull → ⊥) → ((t : TrieFull) → IsErrOf {T = X} (Err error) (engine.TrieFull t) → IsShortFor old.engine (routes_in old.engine) t)
+pub ends_short : {X : Type 0} (limits : Limits) (load : List Elem) (old : State) (error : EngineError) (r : FeedError) → r ≡ refusal_at 0 error → (IsErrOf {T = X} (Err error) engine.HopsFull → ⊥) → ((t : TrieFull) → IsErrOf {T = X} (Err error) (engine.TrieFull t) → IsShortFor old.engine (engine_routes old.engine) t)
     → StateStands Dump limits [] load old → EndsShort limits load r
 ends_short limits load old engine.HopsFull r e never short s = absurd (never refl)
 ends_short limits load old (engine.TrieFull t) r e never short s = rw e (refl, load_short limits load old t s (short t refl))

@@ -3,7 +3,7 @@ use Rattle.std.proofs.Common.{Global, append-nil, drop, subst, ◌≡◌, ℕ, �
 use Rattle.std.specs.Prelude.{IfSome, IsErrOf, ◌⊎◌}
 use Rattle.std.proofs.lemmas.Bool.{le-leb, lt-leb}
 use Rattle.route_model.specs.Events.{Elem, Event}
-use Rattle.printed_model.specs.Rows.{Announced, Vrp}
+use Rattle.printed_text.specs.Rows.{Announced, Vrp}
 use Rattle.fib_rov.specs.Rov.{invalid_in, left_of}
 use Rattle.fib_rov.proofs.JudgedLists.{left_many}
 use Rattle.std.proofs.lemmas.List.{drop_all, length-map, take_all}
@@ -18,32 +18,32 @@ use Rattle.wire_model.specs.Rules.{rule_number}
 use Rattle.wire_model.specs.Record.{Record, record_at, records_in}
 use Rattle.wire_model.specs.Pieces.{TakesRecords}
 use Rattle.wire_model.proofs.More.{starts_so, feeds_on, takes_on, ends_cut}
-use Rattle.reading_model.specs.Input.{Progress, start, input}
-use Rattle.reading_model.proofs.Reading.{reading_ends, reading_ends_cut}
+use Rattle.wire_model.specs.Input.{Progress, start, input}
+use Rattle.wire_model.proofs.Reading.{reading_ends, reading_ends_cut}
 use Rattle.fib_io.specs.Pieces.{octets_read, octets_from, ComeNext, IsEnd, IsLarge}
 use Rattle.fib_io.specs.declared.pieces.ReadError.{ReadError}
 use Rattle.fib_io.specs.declared.pieces.ReadError.TheVariants as pieces
-use Rattle.mrt_frame.specs.Records.{fault_of}
-use Rattle.mrt_frame.specs.declared.Malformed as code_malformed
+use Rattle.mrt_read.specs.Records.{fault_of}
+use Rattle.mrt_read.specs.declared.framer.Malformed as code_malformed
 use Rattle.mrt_read.specs.Standing as reading
 use Rattle.mrt_read.specs.declared.reader.Reader.{Reader}
 use Rattle.mrt_read.specs.declared.reader.EventsError.{EventsError}
 use Rattle.mrt_read.specs.declared.reader.EventsError.TheVariants as read
-use Rattle.whole_input.specs.Cuts.{cut_at, is_cut, is_small}
-use Rattle.whole_input.proofs.Arriving.{Comes, all_fed, comes_first, comes_next, such_before}
-use Rattle.whole_input.proofs.Gathering.{goes_on}
-use Rattle.whole_input.proofs.Cutting.{IsCutNow, cut_rules, ends_here, goes_past, not_cut, reads_on, uncut}
+use Rattle.mrt_read.specs.Cuts.{cut_at, is_cut, is_small}
+use Rattle.mrt_read.proofs.Arriving.{Comes, all_fed, comes_first, comes_next, such_before}
+use Rattle.mrt_read.proofs.Gathering.{goes_on}
+use Rattle.mrt_read.proofs.Cutting.{IsCutNow, cut_rules, ends_here, goes_past, not_cut, reads_on, uncut}
 use Rattle.fib_due.specs.declared.outcome.MrtInput.{MrtInput}
 use Rattle.fib_due.specs.declared.outcome.Outcome.TheVariants as outcome
 use Rattle.fib_run.specs.declared.state.State.{State}
 use Rattle.fib_run.specs.declared.state.FeedError.{FeedError}
 use Rattle.fib_run.specs.declared.state.FeedError.TheVariants.{Malformed, TooLarge}
-use Rattle.fib_run.specs.Counts.{AreFew, CountsFit, CountsOn}
+use Rattle.fib_run.specs.Counts.{AreBounded, CountsFit, CountsOn}
 use Rattle.fib_due.specs.Stops.{Refused, FailsDue, IsDueIfTold, input_of}
 use Rattle.fib_due.specs.Refusals.{Limits, stop_at, too_much}
 use Rattle.fib_due.specs.Due.{elems_in, feed_in, feed_of, read_part}
 use Rattle.fib_due.specs.InTime.{FeedMayGoOn}
-use Rattle.fib_run.specs.Standing.{StateStands, StateHas, StateBrings, StateTakesAll, next_elems, of_input, of_read, refusal_of}
+use Rattle.fib_run.specs.Standing.{StateStands, StateHas, StateBrings, StateTakesAll, next_elems, feed_of_input, feed_of_read, feed_outcome}
 use Rattle.fib_run.proofs.Counting.{Counting, counting_end, counting_feeds, counting_fits, counting_next, counting_start, counting_still}
 use Rattle.fib_run.proofs.Feeding.{Going, due_of, going_start, going_next, going_still, going_feeds, refused_hops, refused_is, brought_is, fault_due, whole_due, past_due, cut_due}
 
@@ -153,13 +153,13 @@ read_fault vrps which limits before c fed rest old new state events taken malfor
     let cut : is_cut (octets_read c) g.read.records ≡ false = rw (e, g.stands.records) (uncut fed rest old taken (fault_of malformed) t n none next) in
     fault_due vrps which limits before c g.read malformed state g.held no.0 (ap input e ∙ no.1.whatever rest) (not_cut (is_small c) (is_cut (octets_read c) g.read.records) cut)
 
-pub refused_read : {rows : List (Announced × Vrp)} (vrps : List Vrp) (which : MrtInput) (limits : Limits) (before : List Elem) (content : Option (List ℕ)) (first : State) (old new : Reader) (state : State) (at events : ℕ) (more : List Event) (error : EventsError) → StateStands which limits before [] first → Streaming vrps which content first old state at events rows → reading.ReaderFills (Err error) more (reading.reader_next old) → reading.ReaderFilled old (Err error) more new → FailsDue (refusal_of which (of_read error)) (due_of limits.sizes vrps which before content)
+pub refused_read : {rows : List (Announced × Vrp)} (vrps : List Vrp) (which : MrtInput) (limits : Limits) (before : List Elem) (content : Option (List ℕ)) (first : State) (old new : Reader) (state : State) (at events : ℕ) (more : List Event) (error : EventsError) → StateStands which limits before [] first → Streaming vrps which content first old state at events rows → reading.ReaderFills (Err error) more (reading.reader_next old) → reading.ReaderFilled old (Err error) more new → FailsDue (feed_outcome which (feed_of_read error)) (due_of limits.sizes vrps which before content)
 refused_read vrps which limits before None first old new state at events more (read.Malformed malformed) stands s next t = tt
 refused_read vrps which limits before (Some c) first old new state at events more (read.Malformed malformed) stands s next t =
     refused_is (feed_of limits.sizes vrps which before c) (outcome.Malformed (input_of which) malformed.number (rule_number malformed.rule)) (read_fault vrps which limits before c s.fed (octets_from at c) old new state events s.taken malformed s.comes (s.going limits before stands) s.frames s.numbered s.none next t)
 refused_read vrps which limits before content first old new state at events more read.NoMemory stands s next t = tt
 
-pub refused_event : {rows : List (Announced × Vrp)} (vrps : List Vrp) (which : MrtInput) (limits : Limits) (before : List Elem) (content : Option (List ℕ)) (first : State) (old new : Reader) (mid state : State) (at events : ℕ) (more : List Event) (error : FeedError) → StateStands which limits before [] first → Streaming vrps which content first old mid at events rows → reading.TakesEvents old more new → StateTakesAll which events (left_of vrps more) mid (Err error) state → FailsDue (refusal_of which error) (due_of limits.sizes vrps which before content)
+pub refused_event : {rows : List (Announced × Vrp)} (vrps : List Vrp) (which : MrtInput) (limits : Limits) (before : List Elem) (content : Option (List ℕ)) (first : State) (old new : Reader) (mid state : State) (at events : ℕ) (more : List Event) (error : FeedError) → StateStands which limits before [] first → Streaming vrps which content first old mid at events rows → reading.TakesEvents old more new → StateTakesAll which events (left_of vrps more) mid (Err error) state → FailsDue (feed_outcome which error) (due_of limits.sizes vrps which before content)
 refused_event vrps which limits before content first old new mid state at events more error stands s t taken = refused_hops vrps which limits before content s.fed at old new mid state events more error s.comes (s.going limits before stands) t taken
 
 -- ---- the same of events that are judged
@@ -185,12 +185,12 @@ judged_takes vrps which content first old new mid state at events n more left is
     (λ limits before done counted held. subst (λ es. (n ≡ length (done ++ next_elems before done es)) × StateStands which limits before (done ++ next_elems before done es) state) is (took limits before done counted held)))
 
 pub judged_event : {rows : List (Announced × Vrp)} (vrps : List Vrp) (which : MrtInput) (limits : Limits) (before : List Elem) (content : Option (List ℕ)) (first : State) (old new : Reader) (mid state : State) (at events : ℕ) (more left : List Event) (error : FeedError) → left ≡ left_of vrps more → StateStands which limits before [] first → Streaming vrps which content first old mid at events rows → reading.TakesEvents old more new
-    → StateTakesAll which events left mid (Err error) state → FailsDue (refusal_of which error) (due_of limits.sizes vrps which before content)
+    → StateTakesAll which events left mid (Err error) state → FailsDue (feed_outcome which error) (due_of limits.sizes vrps which before content)
 judged_event vrps which limits before content first old new mid state at events more left error is stands s t taken = refused_event vrps which limits before content first old new mid state at events more error stands s t (subst (λ es. StateTakesAll which events es mid (Err error) state) is taken)
 
 -- ---- the end
 
-pub refused_end : {rows : List (Announced × Vrp)} (vrps : List Vrp) (which : MrtInput) (limits : Limits) (before : List Elem) (content : Option (List ℕ)) (first : State) (reader : Reader) (state : State) (at events : ℕ) (malformed : code_malformed.Malformed) → IfSome content (λ c. IsEnd c at) → StateStands which limits before [] first → Streaming vrps which content first reader state at events rows → reading.ReaderTells reader (Err malformed) → FailsDue (refusal_of which (Malformed malformed)) (due_of limits.sizes vrps which before content)
+pub refused_end : {rows : List (Announced × Vrp)} (vrps : List Vrp) (which : MrtInput) (limits : Limits) (before : List Elem) (content : Option (List ℕ)) (first : State) (reader : Reader) (state : State) (at events : ℕ) (malformed : code_malformed.Malformed) → IfSome content (λ c. IsEnd c at) → StateStands which limits before [] first → Streaming vrps which content first reader state at events rows → reading.ReaderTells reader (Err malformed) → FailsDue (feed_outcome which (Malformed malformed)) (due_of limits.sizes vrps which before content)
 refused_end vrps which limits before None first reader state at events malformed end stands s t = tt
 refused_end vrps which limits before (Some c) first reader state at events malformed end stands s t =
     let g = s.going limits before stands in
@@ -212,7 +212,7 @@ brings_all invalid vrps which limits before content first reader state at events
     is_due None end comes = tt
     is_due (Some c) end comes = brought_is (feed_of limits.sizes vrps which before c) _ (whole_due vrps which limits before c (s.going limits before stands).read state (s.going limits before stands).held (ap input (all_fed c s.fed at end.0 comes) ∙ t s.fed (s.going limits before stands).read (s.going limits before stands).stands) (le-leb (length c) (2 ^ 36) end.1))
 
-pub few_all : {rows : List (Announced × Vrp)} (invalid : Vec Invalid Global) (vrps : List Vrp) (which : MrtInput) (content : Option (List ℕ)) (first : State) (reader : Reader) (state : State) (at events records skipped treated : ℕ) → at ≤ 2 ^ 36 → Streaming vrps which content first reader state at events rows → reading.ReaderTells reader (Ok tt) → records ≡ reader.records → skipped ≡ reader.skipped → treated ≡ reader.treated → AreFew (2 ^ 36) first.engine.candidates (record { records = records; skipped = skipped; events = events; treated = treated; invalid = invalid }) state.engine.candidates
+pub few_all : {rows : List (Announced × Vrp)} (invalid : Vec Invalid Global) (vrps : List Vrp) (which : MrtInput) (content : Option (List ℕ)) (first : State) (reader : Reader) (state : State) (at events records skipped treated : ℕ) → at ≤ 2 ^ 36 → Streaming vrps which content first reader state at events rows → reading.ReaderTells reader (Ok tt) → records ≡ reader.records → skipped ≡ reader.skipped → treated ≡ reader.treated → AreBounded (2 ^ 36) first.engine.candidates (record { records = records; skipped = skipped; events = events; treated = treated; invalid = invalid }) state.engine.candidates
 few_all invalid vrps which content first reader state at events records skipped treated within s t r k w = counting_end vrps invalid s.fed first.engine.candidates state.engine.candidates reader events records skipped treated (omega (arith, within, s.octets)) s.counting t r k w
 
 -- ---- more octets than are read
@@ -230,13 +230,13 @@ large_due : {rows : List (Announced × Vrp)} (vrps : List Vrp) (which : MrtInput
 large_due vrps which limits before c fed reader state events taken same large g t n none (inl e) = large_in vrps which limits before c fed reader state events taken (reading.reader_left reader) HeaderCut refl same large g t n none e (inl refl)
 large_due vrps which limits before c fed reader state events taken same large g t n none (inr e) = large_in vrps which limits before c fed reader state events taken (reading.reader_left reader) BodyCut refl same large g t n none e (inr refl)
 
-pub refused_large : {rows : List (Announced × Vrp)} (vrps : List Vrp) (which : MrtInput) (limits : Limits) (before : List Elem) (content : Option (List ℕ)) (first : State) (reader : Reader) (state : State) (at events : ℕ) → IfSome content (λ c. IsLarge c at) → StateStands which limits before [] first → Streaming vrps which content first reader state at events rows → IsCutNow reader → FailsDue (refusal_of which TooLarge) (due_of limits.sizes vrps which before content)
+pub refused_large : {rows : List (Announced × Vrp)} (vrps : List Vrp) (which : MrtInput) (limits : Limits) (before : List Elem) (content : Option (List ℕ)) (first : State) (reader : Reader) (state : State) (at events : ℕ) → IfSome content (λ c. IsLarge c at) → StateStands which limits before [] first → Streaming vrps which content first reader state at events rows → IsCutNow reader → FailsDue (feed_outcome which TooLarge) (due_of limits.sizes vrps which before content)
 refused_large vrps which limits before None first reader state at events large stands s cut = tt
 refused_large vrps which limits before (Some c) first reader state at events large stands s cut =
     refused_is (feed_of limits.sizes vrps which before c) (outcome.TooLarge (input_of which)) (large_due vrps which limits before c s.fed reader state events s.taken (all_fed c s.fed at large.0 s.comes) (lt-leb (length c) (2 ^ 36) large.1) (s.going limits before stands) s.frames s.numbered s.none cut)
 
 pub refused_piece : {rows : List (Announced × Vrp)} (vrps : List Vrp) (which : MrtInput) (limits : Limits) (before : List Elem) (content : Option (List ℕ)) (first : State) (reader : Reader) (state : State) (at events : ℕ) (error : ReadError) → (IsErrOf {T = ℕ} (Err error) pieces.TooLarge → IfSome content (λ c. IsLarge c at)) → StateStands which limits before [] first → Streaming vrps which content first reader state at events rows → IsCutNow reader
-    → FailsDue (refusal_of which (of_input error)) (due_of limits.sizes vrps which before content)
+    → FailsDue (feed_outcome which (feed_of_input error)) (due_of limits.sizes vrps which before content)
 refused_piece vrps which limits before content first reader state at events pieces.Fault large stands s cut = tt
 refused_piece vrps which limits before content first reader state at events pieces.NoMemory large stands s cut = tt
 refused_piece vrps which limits before content first reader state at events pieces.TooLarge large stands s cut = refused_large vrps which limits before content first reader state at events (large refl) stands s cut

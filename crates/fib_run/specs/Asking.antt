@@ -8,7 +8,7 @@ use Rattle.fib_addr.specs.declared.addr.Addr.{Addr}
 use Rattle.fib_io.specs.Causes.{Rose}
 use Rattle.fib_io.specs.declared.pieces.ReadError.{ReadError}
 use Rattle.fib_io.specs.declared.pieces.ReadError.TheVariants as pieces
-use Rattle.printed_model.specs.Texts.{lines_of, line_texts}
+use Rattle.printed_text.specs.Texts.{lines_of, line_texts}
 use Rattle.fib_run.specs.declared.asks.AskError.{AskError}
 use Rattle.fib_run.specs.declared.asks.AskError.TheVariants.{BadLine, NoMemory, Fault, TooLarge}
 use Rattle.fib_run.specs.declared.asks.AskReader.{AskReader}

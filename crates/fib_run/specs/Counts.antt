@@ -14,7 +14,7 @@ pub record CountsOn (held : Candidates) (events : List Event) (before after : �
   pub candidates : now ≡ after_elems held (elems_after held events)
 
 -- The counts of an input of at most so many octets, taken behind these candidates: no more records, no more skipped ones and no more treated messages than octets, and no more elementary events and candidates after them than the candidates before and two for each octet.
-pub record AreFew (octets : ℕ) (held : Candidates) (counts : Counts) (now : Candidates) : Type 0 where
+pub record AreBounded (octets : ℕ) (held : Candidates) (counts : Counts) (now : Candidates) : Type 0 where
   pub records : counts.records ≤ octets
   pub skipped : counts.skipped ≤ octets
   pub treated : counts.treated ≤ octets

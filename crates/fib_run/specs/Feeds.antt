@@ -35,10 +35,10 @@ feed_end (Ok x) = AtEnd
 feed_end (Err error) = feeds_end error
 
 -- elementary events are numbered from 1, and none of a dump is refused for want of room in tries
-abbrev pub IsNumbered : MrtInput → FeedError → Type 0
-IsNumbered which (feed.HopsFull event) = 1 ≤ event
-IsNumbered which (feed.TrieFull event full) = (which ≡ OfUpdates) × (1 ≤ event)
-IsNumbered which feed.Fault = Unit {0}
-IsNumbered which feed.TooLarge = Unit {0}
-IsNumbered which feed.NoMemory = Unit {0}
-IsNumbered which (feed.Malformed malformed) = Unit {0}
+abbrev pub EventNumbered : MrtInput → FeedError → Type 0
+EventNumbered which (feed.HopsFull event) = 1 ≤ event
+EventNumbered which (feed.TrieFull event full) = (which ≡ OfUpdates) × (1 ≤ event)
+EventNumbered which feed.Fault = Unit {0}
+EventNumbered which feed.TooLarge = Unit {0}
+EventNumbered which feed.NoMemory = Unit {0}
+EventNumbered which (feed.Malformed malformed) = Unit {0}

@@ -3,11 +3,11 @@ use Rattle.std.specs.Prelude.{◌≡◌, ◌≤◌, ℕ, List, [], ◌++◌, len
 use Rattle.table_model.specs.Address.{Address}
 use Rattle.table_model.specs.Changes.{Change}
 use Rattle.route_model.specs.Events.{Elem, Event}
-use Rattle.printed_model.specs.Rows.{Vrp}
+use Rattle.printed_text.specs.Rows.{Vrp}
 use Rattle.fib_report.specs.Views.{invalid_as}
 use Rattle.route_model.specs.Choice.{after_elems, elems_after}
-use Rattle.fib_engine.specs.Held.{Held}
-use Rattle.fib_engine.specs.Stands.{IsLoading, Stands}
+use Rattle.fib_engine.specs.Held.{EngineState}
+use Rattle.fib_engine.specs.Stands.{IsLoading, EngineStands}
 use Rattle.fib_engine.specs.declared.error.EngineError.{EngineError}
 use Rattle.fib_engine.specs.declared.error.EngineError.TheVariants as engine
 use Rattle.wire_model.specs.Rules.{rule_number}
@@ -23,13 +23,13 @@ use Rattle.fib_run.specs.declared.state.FeedError.TheVariants.{Malformed, HopsFu
 use Rattle.fib_io.specs.Causes.{Rose}
 use Rattle.fib_io.specs.declared.pieces.ReadError.{ReadError}
 use Rattle.fib_io.specs.declared.pieces.ReadError.TheVariants as pieces
-use Rattle.fib_run.specs.declared.report.Fed.{Fed}
+use Rattle.fib_run.specs.declared.report.InputCounts.{InputCounts}
 use Rattle.mrt_read.specs.declared.reader.EventsError.{EventsError}
 use Rattle.mrt_read.specs.declared.reader.EventsError.TheVariants as read
 use Rattle.fib_run.specs.Told.{told_changes, told_moves}
 use Rattle.fib_due.specs.Stops.{Stop, IsDueIfTold, FailsDue, event_in, input_of}
 use Rattle.fib_due.specs.Refusals.{Limits, ManyHops, Refusal, Short, routes_by, stop_at, too_much}
-use Rattle.fib_due.specs.Due.{Feed, changes_of, feeds_at, limits_of, moves_of}
+use Rattle.fib_due.specs.Due.{Feed, run_changes, feeds_at, limits_of, run_moves}
 use Rattle.made_input.specs.Files.{dump_octets, updates_octets}
 use Rattle.fib_io.specs.Held.{held_under}
 use Rattle.fib_io.specs.declared.memory_inputs.SureInputs.{SureInputs}
@@ -37,24 +37,24 @@ use Rattle.fib_words.specs.Commands.{Named}
 use Rattle.route_tries.specs.Sizes.{shortage, shortage_as}
 
 -- the engine has these elementary events of an input, which came after those: of a dump they are its load, and updates came since the load
-abbrev pub EngineHas : MrtInput → List Elem → List Elem → Held → Type 0
+abbrev pub EngineHas : MrtInput → List Elem → List Elem → EngineState → Type 0
 EngineHas Dump before elems e = IsLoading (before ++ elems) e
-EngineHas Updates before elems e = Stands before elems e
+EngineHas Updates before elems e = EngineStands before elems e
 
 -- the engine takes the elementary events of an input, after so many of them: those of a dump before the load ended, and those of updates since, which it counts
-abbrev pub IsReady : MrtInput → ℕ → Held → Type 0
-IsReady Dump count e = (e.loaded ≡ false) × (e.events ≡ 0)
-IsReady Updates count e = (e.loaded ≡ true) × (e.events ≡ count)
+abbrev pub IsAtEvent : MrtInput → ℕ → EngineState → Type 0
+IsAtEvent Dump count e = (e.loaded ≡ false) × (e.events ≡ 0)
+IsAtEvent Updates count e = (e.loaded ≡ true) × (e.events ≡ count)
 
 -- the changes so far: none until the load ended, and then those of the load and of these elementary events of updates
 abbrev pub changes_so_far : MrtInput → Limits → List Address → List Elem → List Elem → List (ℕ × Change)
 changes_so_far Dump limits hops before elems = []
-changes_so_far Updates limits hops before elems = changes_of limits.fewest limits.steady limits.every hops before elems
+changes_so_far Updates limits hops before elems = run_changes limits.fewest limits.steady limits.every hops before elems
 
 -- how many changes each of the events so far needed, where that is told
 abbrev pub moves_so_far : MrtInput → Limits → List Address → List Elem → List Elem → List (ℕ × ℕ)
 moves_so_far Dump limits hops before elems = []
-moves_so_far Updates limits hops before elems = moves_of limits.fewest limits.every hops before elems
+moves_so_far Updates limits hops before elems = run_moves limits.fewest limits.every hops before elems
 
 -- The state after these elementary events of an input, which came after earlier ones, within these limits. Its hops are few enough, and its changes are those so far, as is the number of those that each event needed.
 pub record StateStands (which : MrtInput) (limits : Limits) (before elems : List Elem) (state : State) : Type 0 where
@@ -117,29 +117,29 @@ pub record StateHas (which : MrtInput) (limits : Limits) (before : List Elem) (f
   pub stands : StateStands which limits before feed.elems state
 
 -- a refusal of a reader, as one of an input
-abbrev pub of_read : EventsError → FeedError
-of_read (read.Malformed malformed) = Malformed malformed
-of_read read.NoMemory = NoMemory
+abbrev pub feed_of_read : EventsError → FeedError
+feed_of_read (read.Malformed malformed) = Malformed malformed
+feed_of_read read.NoMemory = NoMemory
 
 -- the outcome where an input brings nothing
-abbrev pub refusal_of : MrtInput → FeedError → Outcome
-refusal_of which (HopsFull n) = outcome.HopsFull (event_in which n)
-refusal_of which (TrieFull n full) = outcome.TrieFull (event_in which n) full.need full.have full.arena
-refusal_of which (Malformed malformed) = outcome.Malformed (input_of which) malformed.number (rule_number malformed.rule)
-refusal_of which NoMemory = outcome.NoMemory
-refusal_of which Fault = outcome.ReadFault
-refusal_of which TooLarge = outcome.TooLarge (input_of which)
+abbrev pub feed_outcome : MrtInput → FeedError → Outcome
+feed_outcome which (HopsFull n) = outcome.HopsFull (event_in which n)
+feed_outcome which (TrieFull n full) = outcome.TrieFull (event_in which n) full.need full.have full.arena
+feed_outcome which (Malformed malformed) = outcome.Malformed (input_of which) malformed.number (rule_number malformed.rule)
+feed_outcome which NoMemory = outcome.NoMemory
+feed_outcome which Fault = outcome.ReadFault
+feed_outcome which TooLarge = outcome.TooLarge (input_of which)
 
 -- a refusal of what is read, as one of an input
-abbrev pub of_input : ReadError → FeedError
-of_input pieces.Fault = Fault
-of_input pieces.TooLarge = TooLarge
-of_input pieces.NoMemory = NoMemory
+abbrev pub feed_of_input : ReadError → FeedError
+feed_of_input pieces.Fault = Fault
+feed_of_input pieces.TooLarge = TooLarge
+feed_of_input pieces.NoMemory = NoMemory
 
 -- what was brought is what the definition gives, but for a fault of reading or want of memory
 abbrev pub StateBrings : MrtInput → Limits → List Elem → Result Counts FeedError → State → Result Feed Stop → Type 0
 StateBrings which limits before (Ok counts) new due = (feed : Feed) × StateHas which limits before feed counts new × IsDueIfTold due (Ok feed)
-StateBrings which limits before (Err error) new due = FailsDue (refusal_of which error) due
+StateBrings which limits before (Err error) new due = FailsDue (feed_outcome which error) due
 
 -- a fault comes only where the count of the name rose, and every other answer leaves all counts
 abbrev pub FeedsFrom : {T : Type 0} → (List ℕ → ℕ) → (List ℕ → ℕ) → List ℕ → Result T FeedError → Type 0
@@ -152,12 +152,12 @@ StateFeeds which limits before (Ok counts) new due = (feed : Feed) × StateHas w
 StateFeeds which limits before (Err o) new due = FailsDue o due
 
 -- both inputs were counted, and the state has what they bring
-pub record IsFed (limits : Limits) (load updates : Feed) (fed : Fed) (state : State) : Type 0 where
+pub record IsFed (limits : Limits) (load updates : Feed) (fed : InputCounts) (state : State) : Type 0 where
   pub counted : IsCounted load fed.load
   pub has : StateHas Updates limits load.elems updates fed.updates state
 
 -- what became of a state that was to take the dump and the updates that are named
-abbrev pub FeedsBoth : (List ℕ → Option (List ℕ)) → List Vrp → Named → Result Fed Outcome → State → Type 0
+abbrev pub FeedsBoth : (List ℕ → Option (List ℕ)) → List Vrp → Named → Result InputCounts Outcome → State → Type 0
 FeedsBoth content vrps named (Ok fed) new = (feeds : Feed × Feed) × IsFed (limits_of named) feeds.0 feeds.1 fed new × IsDueIfTold (feeds_at content vrps named) (Ok feeds)
 FeedsBoth content vrps named (Err o) new = FailsDue o (feeds_at content vrps named)
 

@@ -2,7 +2,7 @@
 
 ghost use Rattle.std.specs.Prelude.{◌≡◌, ◌+◌, ◌++◌, ◌^◌, ◌<◌, List, [], ℕ, length, map};
 ghost use Rattle.fib_addr.specs.Views.{addr_as};
-ghost use Rattle.printed_model.specs.Texts.{line_texts};
+ghost use Rattle.printed_text.specs.Texts.{line_texts};
 ghost use Rattle.fib_due.specs.Asks.{asks_in};
 ghost use Rattle.fib_run.specs.Asking.{AsksFed, AsksFrom, AsksStand, BringsAsks, ReadsLines, ask_of_input};
 ghost use Rattle.fib_io.specs.Reads.{Makes, PassInTime};

@@ -2,13 +2,13 @@
 
 ghost use Rattle.std.specs.Prelude.{◌≡◌, List, [], ◌^◌, ◌<◌, ◌≤◌, length, IfErr, IfOk, Some};
 ghost use Rattle.route_model.specs.Events.{Elem};
-ghost use Rattle.fib_run.specs.Counts.{AreFew};
+ghost use Rattle.fib_run.specs.Counts.{AreBounded};
 ghost use Rattle.fib_io.specs.Reads.{Makes, Pass, PassInTime};
 ghost use Rattle.fib_due.specs.Due.{feed_at};
 ghost use Rattle.fib_due.specs.InTime.{FeedMayGoOn};
-ghost use Rattle.fib_run.specs.Feeds.{IsNumbered, feed_end};
+ghost use Rattle.fib_run.specs.Feeds.{EventNumbered, feed_end};
 ghost use Rattle.fib_due.specs.Refusals.{Limits};
-ghost use Rattle.fib_run.specs.Standing.{FeedsFrom, IsReady, StateBrings, StateStands};
+ghost use Rattle.fib_run.specs.Standing.{FeedsFrom, IsAtEvent, StateBrings, StateStands};
 
 use crate::state::{FeedError, State, take_events};
 use fib_due::MrtInput;
@@ -45,13 +45,13 @@ fn feed_through<I: Inputs>(
     room: &mut [u8],
 ) -> Result<Counts, FeedError>
     requires some { 0 < length room.old }
-    requires ready { IsReady which 0 state.old.engine }
+    requires ready { IsAtEvent which 0 state.old.engine }
     requires few { length state.old.engine.candidates ≤ 2 ^ 40 }
     ensures brings { (limits : Limits) (before : List Elem) → StateStands which limits before [] state.old
         → StateBrings which limits before result state.new
         (feed_at limits.sizes (I.content inputs.old) vrps.now which before (Some name.now)) }
-    ensures ready { IfOk result (λ counts. IsReady which counts.events state.new.engine) }
-    ensures few { IfOk result (λ counts. AreFew (2 ^ 36) state.old.engine.candidates
+    ensures ready { IfOk result (λ counts. IsAtEvent which counts.events state.new.engine) }
+    ensures few { IfOk result (λ counts. AreBounded (2 ^ 36) state.old.engine.candidates
         counts state.new.engine.candidates) }
     ensures same { I.content inputs.new ≡ I.content inputs.old }
     ensures cause { FeedsFrom (I.faults inputs.old) (I.faults inputs.new) name.now result }
@@ -60,7 +60,7 @@ fn feed_through<I: Inputs>(
     ensures in_time { (limits : Limits) (before : List Elem) → StateStands which limits before [] state.old
         → Makes (I.reads inputs.old) (I.reads inputs.new) (PassInTime (I.content inputs.old name.now)
         (FeedMayGoOn limits.sizes vrps.now which before) (feed_end result) name.now) }
-    ensures numbered { IfErr result (IsNumbered which) }
+    ensures numbered { IfErr result (EventNumbered which) }
 {
     let mut reader = Reader::new(alloc);
     let mut more = Vec::new(alloc);
@@ -98,13 +98,13 @@ pub fn feed<I: Inputs>(
     which: MrtInput,
     name: &str,
 ) -> Result<Counts, FeedError>
-    requires ready { IsReady which 0 state.old.engine }
+    requires ready { IsAtEvent which 0 state.old.engine }
     requires few { length state.old.engine.candidates ≤ 2 ^ 40 }
     ensures brings { (limits : Limits) (before : List Elem) → StateStands which limits before [] state.old
         → StateBrings which limits before result state.new
         (feed_at limits.sizes (I.content inputs.old) vrps.now which before (Some name.now)) }
-    ensures ready { IfOk result (λ counts. IsReady which counts.events state.new.engine) }
-    ensures few { IfOk result (λ counts. AreFew (2 ^ 36) state.old.engine.candidates
+    ensures ready { IfOk result (λ counts. IsAtEvent which counts.events state.new.engine) }
+    ensures few { IfOk result (λ counts. AreBounded (2 ^ 36) state.old.engine.candidates
         counts state.new.engine.candidates) }
     ensures same { I.content inputs.new ≡ I.content inputs.old }
     ensures cause { FeedsFrom (I.faults inputs.old) (I.faults inputs.new) name.now result }
@@ -113,7 +113,7 @@ pub fn feed<I: Inputs>(
     ensures in_time { (limits : Limits) (before : List Elem) → StateStands which limits before [] state.old
         → Makes (I.reads inputs.old) (I.reads inputs.new) (PassInTime (I.content inputs.old name.now)
         (FeedMayGoOn limits.sizes vrps.now which before) (feed_end result) name.now) }
-    ensures numbered { IfErr result (IsNumbered which) }
+    ensures numbered { IfErr result (EventNumbered which) }
 {
     let mut room = piece_room(alloc)?;
     feed_through(alloc, inputs, state, vrps, which, name, &mut room)

@@ -8,13 +8,12 @@ ghost use Rattle.table_model.specs.Order.{prefix_cmp};
 ghost use Rattle.table_model.specs.Entries.{Entries};
 ghost use Rattle.table_model.specs.Changes.{additions};
 ghost use Rattle.kept_model.specs.Between.{between};
-ghost use Rattle.steady_feed.specs.Told.{steady_if};
+ghost use Rattle.kept_model.specs.Told.{steady_if};
 ghost use Rattle.fib_addr.specs.Views.{entry_as};
 ghost use Rattle.fib_delta.specs.Views.{change_as};
 
-use fib_delta::Change;
+use fib_delta::{Change, put_entries_in_steady_order, put_event_in_steady_order};
 use fib_prefix::Entry;
-use steady_order::{put_entries_in_steady_order, put_event_in_steady_order};
 
 /// Puts an event's changes in the order in which they are told: the first so many, which are those of its first step, and then the
 /// others, which are those of the snapshot that follows it, each in itself. Both stand in the order of prefixes.

@@ -13,9 +13,9 @@ ghost use Rattle.kept_model.specs.Feed.{at_event};
 ghost use Rattle.fib_addr.specs.Views.{addr_as, entry_as};
 ghost use Rattle.fib_due.specs.Due.{answers_to, Feed, printed, printed_text};
 ghost use Rattle.fib_report.specs.Rows.{of_answer, of_change, of_invalid, of_moves, report_text, table_entry_row};
-ghost use Rattle.printed_model.specs.Numbered.{of_least, of_route};
+ghost use Rattle.printed_text.specs.Numbered.{of_least, of_route};
 ghost use Rattle.fib_report.specs.Views.{answer_as, invalid_as, moves_as};
-ghost use Rattle.fib_report.specs.Sections.{IsReady, Writes, hops_in};
+ghost use Rattle.fib_report.specs.Sections.{IsReady, WritesRows, text_hops};
 ghost use Rattle.route_tries.specs.Sizes.{AreFew};
 ghost use Rattle.route_tries.specs.Tries.{AreTriesOf};
 ghost use Rattle.fib_due.specs.Refusals.{Limits};
@@ -30,7 +30,7 @@ use crate::feed::Counts;
 use crate::state::State;
 use fib_addr::Steps;
 use fib_delta::Change;
-use fib_engine::{FamilyNeeds, Settled, Tries};
+use fib_engine::{FamilyNeeds, FinalFib, Tries};
 use fib_prefix::{Addr, Entry};
 use fib_report::{Answer, Moves, Report, RunText, Section, report_text};
 use std::alloc::{AllocError, Global};
@@ -63,19 +63,19 @@ fn look_up_all<L: Ledger>(
 }
 
 /// Each address with its answer. Tries are built where an address is asked for.
-fn answers(alloc: Global, settled: &Settled, asks: &[Addr]) -> Result<Vec<Answer>, AllocError>
+fn answers(alloc: Global, final_fib: &FinalFib, asks: &[Addr]) -> Result<Vec<Answer>, AllocError>
     ensures { IfOk result (λ answers. map answer_as answers.items
-        ≡ answers_to settled.now.sizes.direct settled.now.routes (map addr_as asks.now)) }
+        ≡ answers_to final_fib.now.sizes.direct final_fib.now.routes (map addr_as asks.now)) }
 {
     if asks.is_empty() {
         return Ok(Vec::new(alloc));
     }
-    let tries = settled.tries()?;
+    let tries = final_fib.tries()?;
     look_up_all::<Brand>(alloc, &tries, asks, Blank::new(1))
 }
 
 /// The counts of both inputs, of the routes and of the table's entries, and what tries need.
-fn totals(fed: &Fed, routes: u64, entries: u64, needs: &FamilyNeeds) -> Report
+fn totals(fed: &InputCounts, routes: u64, entries: u64, needs: &FamilyNeeds) -> Report
     requires counts { AddUp fed.now.load fed.now.updates }
     requires few { AreFew needs.now }
     ensures { result ≡ totals fed.now.load fed.now.updates routes entries needs.now }
@@ -94,7 +94,7 @@ fn totals(fed: &Fed, routes: u64, entries: u64, needs: &FamilyNeeds) -> Report
 
 /// What was counted of both inputs.
 #[derive(Debug, Drop)]
-pub struct Fed {
+pub struct InputCounts {
     /// What was counted of the load.
     pub load: Counts,
     /// What was counted of the updates.
@@ -102,21 +102,24 @@ pub struct Fed {
 }
 
 /// Writes the routes, and gives how many there are.
-fn write_routes<'a>(settled: &Settled, text: RunText<'a>) -> Result<(RunText<'a>, u64), AllocError>
+fn write_routes<'a>(
+    final_fib: &FinalFib,
+    text: RunText<'a>,
+) -> Result<(RunText<'a>, u64), AllocError>
     requires { IsReady text }
-    ensures count { IfOk result (λ r. r.1 ≡ length settled.now.routes) }
-    ensures writes { IfOk result (λ r. Writes text.entry r.0
-        (flat_map (of_route (hops_in text.entry)) settled.now.routes)) }
+    ensures count { IfOk result (λ r. r.1 ≡ length final_fib.now.routes) }
+    ensures writes { IfOk result (λ r. WritesRows text.entry r.0
+        (flat_map (of_route (text_hops text.entry)) final_fib.now.routes)) }
 {
     let mut rows = text.section(Section::Routes);
-    settled.hand_routes(&mut rows)?;
+    final_fib.emit_routes(&mut rows)?;
     Ok(rows.end())
 }
 
 /// Writes the announcements that are Invalid: those of the load and those of updates.
-fn write_invalid(fed: &Fed, text: &mut RunText<'_>) -> Result<(), AllocError>
+fn write_invalid(fed: &InputCounts, text: &mut RunText<'_>) -> Result<(), AllocError>
     requires { IsReady text.old }
-    ensures { OnOk result (Writes text.old text.new (map of_invalid
+    ensures { OnOk result (WritesRows text.old text.new (map of_invalid
         (map invalid_as fed.now.load.invalid.items ++ map invalid_as fed.now.updates.invalid.items))) }
 {
     text.invalids(&fed.load.invalid)?;
@@ -130,7 +133,7 @@ fn write_changes(
     text: &mut RunText<'_>,
 ) -> Result<(), AllocError>
     requires { IsReady text.old }
-    ensures { OnOk result (Writes text.old text.new (map (of_change (hops_in text.old))
+    ensures { OnOk result (WritesRows text.old text.new (map (of_change (text_hops text.old))
         (at_event 0 (additions (map entry_as added.items)) ++ changes_as changes.items))) }
 {
     text.entries(Section::Added, &added)?;
@@ -141,7 +144,7 @@ fn write_changes(
 /// Writes how many changes each event needed, where that is told. The list is let go then.
 fn write_moves(moves: Vec<Moves>, text: &mut RunText<'_>) -> Result<(), AllocError>
     requires { IsReady text.old }
-    ensures { OnOk result (Writes text.old text.new (map of_moves (map moves_as moves.items))) }
+    ensures { OnOk result (WritesRows text.old text.new (map of_moves (map moves_as moves.items))) }
 {
     text.moves(&moves)
 }
@@ -149,7 +152,7 @@ fn write_moves(moves: Vec<Moves>, text: &mut RunText<'_>) -> Result<(), AllocErr
 /// Writes what events brought: the announcements that are Invalid, the changes, and how many changes each event needed. The lists are let
 /// go then.
 fn write_events(
-    fed: &Fed,
+    fed: &InputCounts,
     added: Vec<Entry>,
     changes: Vec<(u64, Change)>,
     moves: Vec<Moves>,
@@ -170,50 +173,56 @@ fn write_events(
 /// Writes each address with its answer.
 fn write_answers(
     alloc: Global,
-    settled: &Settled,
+    final_fib: &FinalFib,
     asks: &[Addr],
     text: &mut RunText<'_>,
 ) -> Result<(), AllocError>
     requires { IsReady text.old }
-    ensures { OnOk result (Writes text.old text.new (flat_map (of_answer (hops_in text.old))
-        (answers_to settled.now.sizes.direct settled.now.routes (map addr_as asks.now)))) }
+    ensures { OnOk result (WritesRows text.old text.new (flat_map (of_answer (text_hops text.old))
+        (answers_to final_fib.now.sizes.direct final_fib.now.routes (map addr_as asks.now)))) }
 {
-    text.answers(&answers(alloc, settled, asks)?)
+    text.answers(&answers(alloc, final_fib, asks)?)
 }
 
 /// Writes the kept table, and gives how many entries it has.
-fn write_table<'a>(settled: &Settled, text: RunText<'a>) -> Result<(RunText<'a>, u64), AllocError>
+fn write_table<'a>(
+    final_fib: &FinalFib,
+    text: RunText<'a>,
+) -> Result<(RunText<'a>, u64), AllocError>
     requires { IsReady text }
-    ensures count { IfOk result (λ r. r.1 ≡ length settled.now.table) }
-    ensures writes { IfOk result (λ r. Writes text.entry r.0
-        (map (table_entry_row (hops_in text.entry)) settled.now.table)) }
+    ensures count { IfOk result (λ r. r.1 ≡ length final_fib.now.table) }
+    ensures writes { IfOk result (λ r. WritesRows text.entry r.0
+        (map (table_entry_row (text_hops text.entry)) final_fib.now.table)) }
 {
     let mut rows = text.section(Section::Table);
-    settled.hand_table(&mut rows)?;
+    final_fib.emit_table(&mut rows)?;
     Ok(rows.end())
 }
 
 /// Writes the least table.
-fn write_least<'a>(settled: &Settled, text: RunText<'a>) -> Result<RunText<'a>, AllocError>
+fn write_least<'a>(final_fib: &FinalFib, text: RunText<'a>) -> Result<RunText<'a>, AllocError>
     requires { IsReady text }
-    ensures { IfOk result (λ t. Writes text.entry t (map (of_least (hops_in text.entry))
-        (aggregate_in_both settled.now.routes settled.now.table))) }
+    ensures { IfOk result (λ t. WritesRows text.entry t (map (of_least (text_hops text.entry))
+        (aggregate_in_both final_fib.now.routes final_fib.now.table))) }
 {
     let mut rows = text.section(Section::Least);
-    settled.hand_least(&mut rows)?;
+    final_fib.emit_least(&mut rows)?;
     Ok(rows.end().0)
 }
 
 /// Writes the kept table, the least one and its certificate, and gives how many entries the kept one has.
-fn write_tables<'a>(settled: Settled, text: RunText<'a>) -> Result<(RunText<'a>, u64), AllocError>
+fn write_tables<'a>(
+    final_fib: FinalFib,
+    text: RunText<'a>,
+) -> Result<(RunText<'a>, u64), AllocError>
     requires { IsReady text }
-    ensures count { IfOk result (λ r. r.1 ≡ length settled.table) }
-    ensures writes { IfOk result (λ r. WritesTables text.entry r.0 settled.table
-        (aggregate_in_both settled.routes settled.table) (certificate_of settled.routes)) }
+    ensures count { IfOk result (λ r. r.1 ≡ length final_fib.table) }
+    ensures writes { IfOk result (λ r. WritesTables text.entry r.0 final_fib.table
+        (aggregate_in_both final_fib.routes final_fib.table) (certificate_of final_fib.routes)) }
 {
-    let (text, entries) = write_table(&settled, text)?;
-    let mut text = write_least(&settled, text)?;
-    settled.certify(&mut text)?;
+    let (text, entries) = write_table(&final_fib, text)?;
+    let mut text = write_least(&final_fib, text)?;
+    final_fib.certify(&mut text)?;
     Ok((text, entries))
 }
 
@@ -221,7 +230,7 @@ fn write_tables<'a>(settled: Settled, text: RunText<'a>) -> Result<(RunText<'a>,
 pub fn write_text(
     alloc: Global,
     state: State,
-    fed: &Fed,
+    fed: &InputCounts,
     asks: &[Addr],
 ) -> Result<Vec<u8>, AllocError>
     requires loaded { state.engine.loaded ≡ true }
@@ -240,19 +249,19 @@ pub fn write_text(
         ..
     } = state;
     // from here on no candidate is held
-    let (settled, hops) = engine.settle();
-    let needs = settled.needs();
+    let (final_fib, hops) = engine.settle();
+    let needs = final_fib.needs();
     let text = RunText::new(alloc, &hops);
-    let (mut text, routes) = write_routes(&settled, text)?;
+    let (mut text, routes) = write_routes(&final_fib, text)?;
     write_events(fed, added, changes, moves, &mut text)?;
-    write_answers(alloc, &settled, asks, &mut text)?;
-    let (mut text, entries) = write_tables(settled, text)?;
+    write_answers(alloc, &final_fib, asks, &mut text)?;
+    let (mut text, entries) = write_tables(final_fib, text)?;
     text.report(&totals(fed, routes, entries, &needs))?;
     text.finish()
 }
 
 /// The rows of the counts alone.
-pub fn write_counts(alloc: Global, state: &State, fed: &Fed) -> Result<Vec<u8>, AllocError>
+pub fn write_counts(alloc: Global, state: &State, fed: &InputCounts) -> Result<Vec<u8>, AllocError>
     requires loaded { state.now.engine.loaded ≡ true }
     requires counts { AddUp fed.now.load fed.now.updates }
     ensures { (limits : Limits) (load updates : Feed) → IsFed limits load updates fed.now state.now

@@ -3,7 +3,7 @@
 ghost use Rattle.std.specs.Prelude.{◌≡◌, ◌≤◌, ◌^◌, ◌∷◌, List, [], Ok, Some, None, length, map, IfErr, IfOk, IfSome, IsSome, OnErr, OnOk, option_to_list, true};
 ghost use Rattle.fib_addr.specs.Views.{addr_as};
 ghost use Rattle.fib_run.specs.Asking.{ask_refusal};
-ghost use Rattle.fib_run.specs.Counts.{AddUp, AreFew};
+ghost use Rattle.fib_run.specs.Counts.{AddUp, AreBounded};
 ghost use Rattle.fib_due.specs.Due.{asks_at, feed_at, limits_of, made_at, made_named, run_at, told_at, vrps_at, vrps_in_input, with_counts, with_text};
 ghost use Rattle.fib_due.specs.Ends.{feeds_named, reads_named, ReadsName, ReadsNames};
 ghost use Rattle.fib_io.specs.Reads.{Makes};
@@ -12,16 +12,16 @@ ghost use Rattle.fib_due.specs.Owned.{StopsAt, StopsIn};
 ghost use Rattle.fib_due.specs.Passes.{ReadsOf, feed_inputs, input_for, run_inputs};
 ghost use Rattle.fib_due.specs.Proves.{ChecksYes};
 ghost use Rattle.fib_run.specs.Told.{limits_as};
-ghost use Rattle.fib_run.specs.Standing.{FeedsBoth, HoldsMade, IsReady, StateFeeds, refusal_of, StateStands};
+ghost use Rattle.fib_run.specs.Standing.{FeedsBoth, HoldsMade, IsAtEvent, StateFeeds, feed_outcome, StateStands};
 ghost use Rattle.fib_due.specs.Refusals.{Limits as ends};
 ghost use Rattle.fib_due.specs.Stops.{GivesDue, IsDueIfTold, event_in, input_of};
 ghost use Rattle.fib_due.specs.Untold.{TextOfSome};
-ghost use Rattle.fib_words.specs.Commands.{IsWithin, Make, named_as, Run};
+ghost use Rattle.fib_words.specs.Commands.{AreWithinLimits, Make, named_as, Run};
 ghost use Rattle.route_model.specs.Events.{Elem};
 
 use crate::asks::{AskError, read_asks};
 use crate::feed::{Counts, feed};
-use crate::report::{Fed, write_counts, write_text};
+use crate::report::{InputCounts, write_counts, write_text};
 use crate::state::{FeedError, State};
 use fib_due::{MrtInput, Outcome, Which, octets_of};
 use fib_engine::{Limits, Sizes};
@@ -133,7 +133,7 @@ fn event_in(which: MrtInput, event: u64) -> u64
 
 /// The outcome where an input brings nothing.
 pub(crate) fn outcome_of_refusal(which: MrtInput, error: FeedError) -> Outcome
-    ensures { result ≡ refusal_of which error }
+    ensures { result ≡ feed_outcome which error }
 {
     match error {
         FeedError::Malformed(malformed) => Outcome::Malformed {
@@ -168,14 +168,14 @@ pub(crate) fn feed_of<I: Inputs>(
     which: MrtInput,
     name: &str,
 ) -> Result<Counts, Outcome>
-    requires ready { IsReady which 0 state.old.engine }
+    requires ready { IsAtEvent which 0 state.old.engine }
     requires few { length state.old.engine.candidates ≤ 2 ^ 40 }
     ensures due { (limits : ends) (before : List Elem) → StateStands which limits before [] state.old
         → StateFeeds which limits before result state.new
         (feed_at limits.sizes (I.content inputs.old) vrps.now which before (Some name.now)) }
     ensures stops { IfErr result (StopsAt (input_of which)) }
-    ensures ready { IfOk result (λ counts. IsReady which counts.events state.new.engine) }
-    ensures few { IfOk result (λ counts. AreFew (2 ^ 36) state.old.engine.candidates
+    ensures ready { IfOk result (λ counts. IsAtEvent which counts.events state.new.engine) }
+    ensures few { IfOk result (λ counts. AreBounded (2 ^ 36) state.old.engine.candidates
         counts state.new.engine.candidates) }
     ensures same { I.content inputs.new ≡ I.content inputs.old }
     ensures cause { ReadsName name.now (I.faults inputs.old) (I.faults inputs.new) result }
@@ -195,7 +195,7 @@ fn updates_of<I: Inputs>(
     vrps: &Vrps,
     command: &RunWords<'_>,
 ) -> Result<Counts, Outcome>
-    requires ready { IsReady MrtInput.Updates 0 state.old.engine }
+    requires ready { IsAtEvent MrtInput.Updates 0 state.old.engine }
     requires few { length state.old.engine.candidates ≤ 2 ^ 40 }
     ensures due { (limits : ends) (before : List Elem)
         → StateStands MrtInput.Updates limits before [] state.old
@@ -204,8 +204,8 @@ fn updates_of<I: Inputs>(
         (named_as command.now).updates) }
     ensures stops { IfErr result (StopsAt Which.Updates) }
     ensures named { OnErr result (IsSome (named_as command.now).updates) }
-    ensures ready { IfOk result (λ counts. IsReady MrtInput.Updates counts.events state.new.engine) }
-    ensures few { IfOk result (λ counts. AreFew (2 ^ 36) state.old.engine.candidates
+    ensures ready { IfOk result (λ counts. IsAtEvent MrtInput.Updates counts.events state.new.engine) }
+    ensures few { IfOk result (λ counts. AreBounded (2 ^ 36) state.old.engine.candidates
         counts state.new.engine.candidates) }
     ensures same { I.content inputs.new ≡ I.content inputs.old }
     ensures cause { ReadsNames (option_to_list (named_as command.now).updates) (I.faults inputs.old)
@@ -230,7 +230,7 @@ fn updates_of<I: Inputs>(
 
 /// How often a snapshot comes and how large tries are, as the words ask for it.
 fn limits_of(command: &RunWords<'_>) -> Limits
-    requires { IsWithin (CommandWords.Run command.now) }
+    requires { AreWithinLimits (CommandWords.Run command.now) }
     ensures { limits_as result command.now.steady ≡ limits_of (named_as command.now) }
 {
     Limits {
@@ -252,8 +252,8 @@ fn feed_both<I: Inputs>(
     state: &mut State,
     vrps: &Vrps,
     command: &RunWords<'_>,
-) -> Result<Fed, Outcome>
-    requires ready { IsReady MrtInput.Dump 0 state.old.engine }
+) -> Result<InputCounts, Outcome>
+    requires ready { IsAtEvent MrtInput.Dump 0 state.old.engine }
     requires none { state.old.engine.candidates ≡ [] }
     requires told { IsDueIfTold (vrps_at (I.content inputs.old) (named_as command.now).vrps)
         (Ok vrps.now) }
@@ -276,7 +276,7 @@ fn feed_both<I: Inputs>(
         return Err(outcome_of_refusal(MrtInput::Dump, error));
     }
     let updates = updates_of(alloc, inputs, state, vrps, command)?;
-    Ok(Fed { load, updates })
+    Ok(InputCounts { load, updates })
 }
 
 /// Takes the dump and the updates, and gives the text.
@@ -288,7 +288,7 @@ fn text_of<I: Inputs>(
     asks: &[Addr],
     vrps: &Vrps,
 ) -> Result<Vec<u8>, Outcome>
-    requires within { IsWithin (CommandWords.Run command.now) }
+    requires within { AreWithinLimits (CommandWords.Run command.now) }
     requires told { IsDueIfTold (vrps_at (I.content inputs.old) (named_as command.now).vrps)
         (Ok vrps.now) }
     ensures due { GivesDue (λ v. v.items) result
@@ -327,7 +327,7 @@ const MADE: RunWords<'static> = RunWords {
 
 /// Both made inputs, under their names.
 fn made_inputs(alloc: Global, made: &MakeWords) -> Result<SureInputs, AllocError>
-    requires { IsWithin (CommandWords.Make made.now) }
+    requires { AreWithinLimits (CommandWords.Make made.now) }
     ensures { IfOk result (HoldsMade made.now.routes made.now.seed) }
 {
     let (dump, updates) = generate(alloc, made.routes, made.seed)?;
@@ -345,7 +345,7 @@ fn take_made(
     inputs: &mut SureInputs,
     state: &mut State,
 ) -> Result<Vec<u8>, Outcome>
-    requires ready { IsReady MrtInput.Dump 0 state.old.engine }
+    requires ready { IsAtEvent MrtInput.Dump 0 state.old.engine }
     requires none { state.old.engine.candidates ≡ [] }
     requires stands { StateStands MrtInput.Dump (limits_of made_named) [] [] state.old }
     requires holds { HoldsMade made.now.routes made.now.seed inputs.old }
@@ -363,7 +363,7 @@ fn take_made(
 
 /// Makes routes and updates, takes them as a run takes its inputs, and gives the rows of the counts.
 pub fn made_for(alloc: Global, made: &MakeWords) -> Result<Vec<u8>, Outcome>
-    requires { IsWithin (CommandWords.Make made.now) }
+    requires { AreWithinLimits (CommandWords.Make made.now) }
     ensures due { GivesDue (λ v. v.items) result
         (with_counts (made_at made.now.routes made.now.seed)) }
     ensures stops { IfErr result (StopsIn (Make made.now.routes made.now.seed)) }
@@ -383,7 +383,7 @@ pub fn run_for<I: Inputs>(
     inputs: &mut I,
     command: &RunWords<'_>,
 ) -> Result<Vec<u8>, Outcome>
-    requires { IsWithin (CommandWords.Run command.now) }
+    requires { AreWithinLimits (CommandWords.Run command.now) }
     ensures due { GivesDue (λ v. v.items) result
         (with_text (run_at (I.content inputs.old) (named_as command.now))) }
     ensures some { TextOfSome (I.content inputs.old) (named_as command.now) result }

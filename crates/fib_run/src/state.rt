@@ -8,9 +8,9 @@ ghost use Rattle.route_model.specs.Events.{Elem as model_elem, Event as model_ev
 ghost use Rattle.route_model.specs.Choice.{Candidates, after_elem, elems_of};
 ghost use Rattle.kept_model.specs.Feed.{at_event};
 ghost use Rattle.fib_run.specs.Counts.{CountsFit, CountsOn};
-ghost use Rattle.fib_run.specs.Feeds.{IsNumbered};
+ghost use Rattle.fib_run.specs.Feeds.{EventNumbered};
 ghost use Rattle.fib_due.specs.Refusals.{Limits as ends};
-ghost use Rattle.fib_run.specs.Standing.{EndsShort, IsOfLoad, IsReady, of_input, of_read, refusal_at, StateStands, StateTakes, StateTakesAll};
+ghost use Rattle.fib_run.specs.Standing.{EndsShort, IsOfLoad, IsAtEvent, feed_of_input, feed_of_read, refusal_at, StateStands, StateTakes, StateTakesAll};
 ghost use Rattle.fib_report.specs.Views.{moves_as};
 ghost use Rattle.fib_run.specs.Told.{changes_as, limits_as, moves_told};
 ghost use Rattle.fib_run.specs.declared.state.FeedError.TheVariants.{Malformed as IsMalformed, NoMemory as IsNoMemory};
@@ -54,7 +54,7 @@ pub enum FeedError {
 }
 
 impl From<ReadError> for FeedError {
-    ghost from_gives = { λ error e. e ≡ of_input error };
+    ghost from_gives = { λ error e. e ≡ feed_of_input error };
 
     fn from(error: ReadError) -> FeedError {
         match error {
@@ -74,7 +74,7 @@ impl From<Malformed> for FeedError {
 }
 
 impl From<EventsError> for FeedError {
-    ghost from_gives = { λ error e. e ≡ of_read error };
+    ghost from_gives = { λ error e. e ≡ feed_of_read error };
 
     fn from(error: EventsError) -> FeedError {
         match error {
@@ -155,7 +155,7 @@ impl State {
     /// prefixes.
     pub fn new(alloc: Global, limits: Limits, steady: bool) -> State
         ensures stands { StateStands MrtInput.Dump (limits_as limits steady) [] [] result }
-        ensures ready { IsReady MrtInput.Dump 0 result.engine }
+        ensures ready { IsAtEvent MrtInput.Dump 0 result.engine }
         ensures none { result.engine.candidates ≡ [] }
     {
         State {
@@ -170,7 +170,7 @@ impl State {
 
     /// Ends the load: the kept table is made, and its entries are what the load adds.
     pub fn finish_load(&mut self) -> Result<(), FeedError>
-        requires { IsReady MrtInput.Dump 0 self.old.engine }
+        requires { IsAtEvent MrtInput.Dump 0 self.old.engine }
         ensures stands { OnOk result ((limits : ends) (load : List model_elem)
             → StateStands MrtInput.Dump limits [] load self.old
             → StateStands MrtInput.Updates limits load [] self.new) }
@@ -179,7 +179,7 @@ impl State {
         ensures kinds { IfErr result IsOfLoad }
         ensures candidates { OnOk result (self.new.engine.candidates
             ≡ self.old.engine.candidates) }
-        ensures ready { OnOk result (IsReady MrtInput.Updates 0 self.new.engine) }
+        ensures ready { OnOk result (IsAtEvent MrtInput.Updates 0 self.new.engine) }
     {
         match self.engine.finish_load() {
             Ok(mut added) => {
@@ -206,13 +206,13 @@ fn refusal_at(event: u64, error: EngineError) -> FeedError
 /// Takes the elementary event of this number: its hop gets a number, and the candidates change. One of updates changes the kept
 /// table, and its changes are added.
 fn step(state: &mut State, which: MrtInput, event: u64, elem: &Elem) -> Result<(), FeedError>
-    requires ready { IsReady which (event - 1) state.old.engine }
+    requires ready { IsAtEvent which (event - 1) state.old.engine }
     requires first { 1 ≤ event }
     ensures takes { StateTakes which event (elem_as elem.now ∷ []) state.old result state.new }
     ensures candidates { OnOk result (state.new.engine.candidates
         ≡ after_elem state.old.engine.candidates (elem_as elem.now)) }
-    ensures ready { OnOk result (IsReady which event state.new.engine) }
-    ensures numbered { IfErr result (IsNumbered which) }
+    ensures ready { OnOk result (IsAtEvent which event state.new.engine) }
+    ensures numbered { IfErr result (EventNumbered which) }
 {
     match which {
         MrtInput::Dump => match state.engine.load(elem) {
@@ -251,13 +251,13 @@ fn take_elems(
     before: u64,
     elems: &[Elem],
 ) -> Result<u64, FeedError>
-    requires ready { IsReady which before state.old.engine }
+    requires ready { IsAtEvent which before state.old.engine }
     requires few { before + length elems.now < 2 ^ 64 }
     ensures takes { (event : model_event) → map elem_as elems.now
         ≡ elems_of state.old.engine.candidates event
         → StateTakesAll which before (event ∷ []) state.old result state.new }
-    ensures ready { IfOk result (λ after. IsReady which after state.new.engine) }
-    ensures numbered { IfErr result (IsNumbered which) }
+    ensures ready { IfOk result (λ after. IsAtEvent which after state.new.engine) }
+    ensures numbered { IfErr result (EventNumbered which) }
     ensures counts { IfOk result (λ after. (event : model_event) → map elem_as elems.now
         ≡ elems_of state.old.engine.candidates event
         → CountsOn state.old.engine.candidates (event ∷ []) before after state.new.engine.candidates) }
@@ -279,14 +279,14 @@ fn load_step(
     path: u32,
     hop: &Addr,
 ) -> Result<(), FeedError>
-    requires ready { IsReady MrtInput.Dump (event - 1) state.old.engine }
+    requires ready { IsAtEvent MrtInput.Dump (event - 1) state.old.engine }
     requires first { 1 ≤ event }
     ensures takes { StateTakes MrtInput.Dump event
         (elem_as (Put via.now prefix.now path hop.now) ∷ []) state.old result state.new }
     ensures candidates { OnOk result (state.new.engine.candidates
         ≡ after_elem state.old.engine.candidates (elem_as (Put via.now prefix.now path hop.now))) }
-    ensures ready { OnOk result (IsReady MrtInput.Dump event state.new.engine) }
-    ensures numbered { IfErr result (IsNumbered MrtInput.Dump) }
+    ensures ready { OnOk result (IsAtEvent MrtInput.Dump event state.new.engine) }
+    ensures numbered { IfErr result (EventNumbered MrtInput.Dump) }
 {
     match state.engine.load_put(via, prefix, path, hop) {
         Ok(()) => Ok(()),
@@ -296,12 +296,12 @@ fn load_step(
 
 /// Takes an event of a dump after so many elementary events, and gives how many there are then. A route is taken as it lies there.
 fn take_dumped(state: &mut State, before: u64, event: &Event) -> Result<u64, FeedError>
-    requires ready { IsReady MrtInput.Dump before state.old.engine }
+    requires ready { IsAtEvent MrtInput.Dump before state.old.engine }
     requires few { CountsFit state.old.engine.candidates (event_as event.now ∷ []) before }
     ensures takes { StateTakesAll MrtInput.Dump before (event_as event.now ∷ [])
         state.old result state.new }
-    ensures ready { IfOk result (λ after. IsReady MrtInput.Dump after state.new.engine) }
-    ensures numbered { IfErr result (IsNumbered MrtInput.Dump) }
+    ensures ready { IfOk result (λ after. IsAtEvent MrtInput.Dump after state.new.engine) }
+    ensures numbered { IfErr result (EventNumbered MrtInput.Dump) }
     ensures counts { IfOk result (λ after. CountsOn state.old.engine.candidates
         (event_as event.now ∷ []) before after state.new.engine.candidates) }
 {
@@ -322,12 +322,12 @@ fn take_event(
     before: u64,
     event: &Event,
 ) -> Result<u64, FeedError>
-    requires ready { IsReady which before state.old.engine }
+    requires ready { IsAtEvent which before state.old.engine }
     requires few { CountsFit state.old.engine.candidates (event_as event.now ∷ []) before }
     ensures takes { StateTakesAll which before (event_as event.now ∷ [])
         state.old result state.new }
-    ensures ready { IfOk result (λ after. IsReady which after state.new.engine) }
-    ensures numbered { IfErr result (IsNumbered which) }
+    ensures ready { IfOk result (λ after. IsAtEvent which after state.new.engine) }
+    ensures numbered { IfErr result (EventNumbered which) }
     ensures counts { IfOk result (λ after. CountsOn state.old.engine.candidates
         (event_as event.now ∷ []) before after state.new.engine.candidates) }
 {
@@ -344,12 +344,12 @@ fn take_one(
     before: u64,
     event: &Event,
 ) -> Result<u64, FeedError>
-    requires ready { IsReady which before state.old.engine }
+    requires ready { IsAtEvent which before state.old.engine }
     requires few { CountsFit state.old.engine.candidates (event_as event.now ∷ []) before }
     ensures takes { StateTakesAll which before (event_as event.now ∷ [])
         state.old result state.new }
-    ensures ready { IfOk result (λ after. IsReady which after state.new.engine) }
-    ensures numbered { IfErr result (IsNumbered which) }
+    ensures ready { IfOk result (λ after. IsAtEvent which after state.new.engine) }
+    ensures numbered { IfErr result (EventNumbered which) }
     ensures counts { IfOk result (λ after. CountsOn state.old.engine.candidates
         (event_as event.now ∷ []) before after state.new.engine.candidates) }
 {
@@ -369,12 +369,12 @@ pub fn take_events(
     before: u64,
     events: &[Event],
 ) -> Result<u64, FeedError>
-    requires ready { IsReady which before state.old.engine }
+    requires ready { IsAtEvent which before state.old.engine }
     requires few { CountsFit state.old.engine.candidates (map event_as events.now) before }
     ensures takes { StateTakesAll which before (map event_as events.now)
         state.old result state.new }
-    ensures ready { IfOk result (λ after. IsReady which after state.new.engine) }
-    ensures numbered { IfErr result (IsNumbered which) }
+    ensures ready { IfOk result (λ after. IsAtEvent which after state.new.engine) }
+    ensures numbered { IfErr result (EventNumbered which) }
     ensures counts { IfOk result (λ after. CountsOn state.old.engine.candidates
         (map event_as events.now) before after state.new.engine.candidates) }
 {

@@ -5,7 +5,7 @@ ghost use Rattle.fib_prefix.specs.Views.{event_as};
 ghost use Rattle.route_tries.specs.Sizes.{sizes_as};
 ghost use Rattle.step_script.specs.Steps.{step_as};
 ghost use Rattle.stepper.specs.Runs.{ArePrinted};
-ghost use Rattle.fib_words.specs.Commands.{IsWithin, Steps, steps_as};
+ghost use Rattle.fib_words.specs.Commands.{AreWithinLimits, Steps, steps_as};
 ghost use Rattle.fib_due.specs.Due.{load_at, script_at, stepping_at, steps_sizes, with_world, world_at};
 ghost use Rattle.fib_due.specs.Ends.{after, reads_steps, ReadsName, ReadsNames};
 ghost use Rattle.fib_due.specs.InTime.{TextMayGoOn, StepsMayGoOn};
@@ -17,7 +17,7 @@ ghost use Rattle.fib_due.specs.Passes.{ReadsOf, load_inputs, steps_inputs};
 ghost use Rattle.fib_due.specs.Stepping.{events_at, refusal_of_whole};
 ghost use Rattle.fib_due.specs.Stops.{GivesDue};
 ghost use Rattle.fib_due.specs.Untold.{GivesText, StepsOfSome};
-ghost use Rattle.whole_input.specs.Whole.{MayGoOn};
+ghost use Rattle.mrt_read.specs.Whole.{MayGoOn};
 
 use crate::run::{feed_of, outcome_of_refusal};
 use crate::state::State;
@@ -27,11 +27,11 @@ use fib_io::Inputs;
 use fib_prefix::{Event, Family};
 use fib_rov::Vrps;
 use fib_words::{CommandWords, StepsWords};
+use mrt_read::{WholeError, read_all_events};
 use poptrie_build::TrieFull;
 use std::alloc::Global;
 use step_run::{StepError, run_steps};
 use step_script::{ScriptError, Step, read_script};
-use whole_input::{WholeError, read_all_events};
 
 /// The steps of the script.
 #[tactic(auto, using(fib_due::proofs::Passes::out_of_memory, fib_due::proofs::Passes::text_refused, crate::proofs::Scripts::script_printed), unfolding(fib_due::specs::Due::script_at))]
@@ -59,7 +59,7 @@ fn script_of<I: Inputs>(alloc: Global, inputs: &mut I, name: &str) -> Result<Vec
 
 /// How large tries are, as the words ask for it.
 fn sizes_of(command: &StepsWords<'_>) -> Sizes
-    requires { IsWithin (CommandWords.Steps command.now) }
+    requires { AreWithinLimits (CommandWords.Steps command.now) }
     ensures { sizes_as result ≡ steps_sizes (steps_as command.now) }
 {
     Sizes {
@@ -75,7 +75,7 @@ fn load_of<I: Inputs>(
     inputs: &mut I,
     command: &StepsWords<'_>,
 ) -> Result<Engine, Outcome>
-    requires { IsWithin (CommandWords.Steps command.now) }
+    requires { AreWithinLimits (CommandWords.Steps command.now) }
     ensures due { GivesLoad (steps_sizes (steps_as command.now)) result (load_at
         (steps_sizes (steps_as command.now)) (I.content inputs.old) [] (steps_as command.now).dump) }
     ensures stops { IfErr result (StopsAt Which.Dump) }
@@ -168,7 +168,7 @@ fn rows_of<I: Inputs>(
     command: &StepsWords<'_>,
     script: &[Step],
 ) -> Result<Vec<u8>, Outcome>
-    requires within { IsWithin (CommandWords.Steps command.now) }
+    requires within { AreWithinLimits (CommandWords.Steps command.now) }
     requires few { ArePrinted (map step_as script.now) }
     ensures gives { GivesText (with_world (map step_as script.now) (world_at (I.content inputs.old)
         (steps_as command.now))) result }
@@ -196,7 +196,7 @@ pub fn steps_for<I: Inputs>(
     inputs: &mut I,
     command: &StepsWords<'_>,
 ) -> Result<Vec<u8>, Outcome>
-    requires { IsWithin (CommandWords.Steps command.now) }
+    requires { AreWithinLimits (CommandWords.Steps command.now) }
     ensures gives { GivesText (stepping_at (I.content inputs.old) (steps_as command.now)) result }
     ensures some { StepsOfSome (I.content inputs.old) (steps_as command.now) result }
     ensures stops { IfErr result (StopsIn (Steps (steps_as command.now))) }

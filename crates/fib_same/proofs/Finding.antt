@@ -6,19 +6,19 @@ use Rattle.table_model.specs.Address.{Address}
 use Rattle.table_model.specs.Entries.{Entries, match_in}
 use Rattle.cert_model.specs.Verdict.{NotSame, not_same}
 use Rattle.fib_addr.specs.Views.{addr_as}
-use Rattle.texts_model.specs.Texts.{Difference, difference_at, differing, least_difference, lesser}
-use Rattle.texts_model.proofs.Found.{found_more, not_same_is, says_at}
+use Rattle.fib_same.specs.Texts.{Difference, difference_at, differing, least_difference, lesser}
+use Rattle.fib_same.proofs.Found.{found_more, not_same_is, says_at}
 use Rattle.cert_check.specs.Views.{differ_as}
 use Rattle.cert_check.specs.declared.alike.Differ.{Differ}
 use Rattle.fib_same.specs.declared.compare.Found.{Found}
-use Rattle.fib_same.specs.Views.{AnswersOf, Finds, IsOneOf, IsSmall, found_as, found_at}
+use Rattle.fib_same.specs.Views.{AnswersOf, Finds, IsOneOf, IsSmall, text_difference_as, found_at}
 
 same_no : (a b : Address) (x y u v : ℕ) → NotSame a x y ≡ NotSame b u v → (a ≡ b) × (x ≡ u) × (y ≡ v)
 same_no a b x y u v e = (cc, cc, cc)
 
 -- what a checker found is where the text differs, and its answers are those of both
 found_is : (first t : Entries) (place : ℕ) (d : Option Differ) (a : Option Address) → option_map differ_as d ≡ option_map (says_at first t) a
-    → (option_map found_as (found_at place d) ≡ option_map (λ b. record { text = place; addr = b }) a) × IfSome d (λ x. (match_in first (addr_as x.addr) ≡ x.first.0) × (match_in t (addr_as x.addr) ≡ x.second.0))
+    → (option_map text_difference_as (found_at place d) ≡ option_map (λ b. record { text = place; addr = b }) a) × IfSome d (λ x. (match_in first (addr_as x.addr) ≡ x.first.0) × (match_in t (addr_as x.addr) ≡ x.second.0))
 found_is first t place None None e = (refl, tt)
 found_is first t place None (Some a) e = absurd cc
 found_is first t place (Some d) None e = absurd cc
@@ -49,12 +49,12 @@ answers_come first done t place (Some d) e a =
     (a.0, ap (λ (n : ℕ). option_map (λ u. match_in u (addr_as d.addr)) (slice_get (done ++ t ∷ []) n)) e ∙ (ap (option_map (λ u. match_in u (addr_as d.addr))) (at_end done t) ∙ ap Some a.1))
 
 pub finds_more : (first : Entries) (done : List Entries) (t : Entries) (best result : Option Found) (place : ℕ) (d : Option Differ) → place ≡ length done → Finds first done best
-    → option_map differ_as d ≡ not_same first t → option_map found_as result ≡ lesser (option_map found_as best) (option_map found_as (found_at place d)) → IsOneOf result best (found_at place d)
+    → option_map differ_as d ≡ not_same first t → option_map text_difference_as result ≡ lesser (option_map text_difference_as best) (option_map text_difference_as (found_at place d)) → IsOneOf result best (found_at place d)
     → Finds first (done ++ t ∷ []) result
 finds_more first done t best result place d e finds is least one =
     let f = found_is first t place d (differing first t) (is ∙ not_same_is first t) in (
       least
-          ∙ (ap (λ o. lesser o (option_map found_as (found_at place d))) finds.0
+          ∙ (ap (λ o. lesser o (option_map text_difference_as (found_at place d))) finds.0
           ∙ (ap (lesser (least_difference first done)) (f.0 ∙ ap (λ (n : ℕ). difference_at first n t) e) ∙ sym (found_more first done t))),
       by_one one,
     )

@@ -3,3 +3,5 @@ pub mod Going
 pub mod Nearer
 pub mod Finding
 pub mod Whole
+pub mod Told
+pub mod Found

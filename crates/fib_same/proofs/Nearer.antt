@@ -12,9 +12,9 @@ use Rattle.table_model.proofs.Families.{family_order}
 use Rattle.cert_model.specs.Verdict.{address_cmp}
 use Rattle.fib_addr.specs.declared.addr.Addr.{Addr}
 use Rattle.fib_addr.specs.Views.{addr_as}
-use Rattle.texts_model.specs.Texts.{lesser}
+use Rattle.fib_same.specs.Texts.{lesser}
 use Rattle.fib_same.specs.declared.compare.Found.{Found}
-use Rattle.fib_same.specs.Views.{found_as}
+use Rattle.fib_same.specs.Views.{text_difference_as}
 
 value_is : (a : Addr) → value_of (bits_of (width a.family) a.bits) ≡ a.bits
 value_is a = value-bits_of (width a.family) a.bits ∙ mod-eq_of_lt a.below
@@ -26,15 +26,15 @@ order_is a b =
     ∙ ap (λ (n : ℕ). ordering_then (family_cmp a.family b.family) (nat_cmp a.bits n)) (value_is b)
 
 pub lesser_is : (x y : Found) (o : Ordering) → ordering_then (code_family_cmp y.differ.addr.family x.differ.addr.family) (nat_cmp y.differ.addr.bits x.differ.addr.bits) ≡ o
-    → lesser (Some (found_as x)) (Some (found_as y)) ≡ match_ordering o (Some (found_as y)) (Some (found_as x)) (Some (found_as x))
+    → lesser (Some (text_difference_as x)) (Some (text_difference_as y)) ≡ match_ordering o (Some (text_difference_as y)) (Some (text_difference_as x)) (Some (text_difference_as x))
 lesser_is x y o e =
     let a = y.differ.addr in
     let b = x.differ.addr in
     let code = ap (λ p. ordering_then p (nat_cmp a.bits b.bits)) (family_order a.family b.family) in
-    ap (λ p. match_ordering p (Some (found_as y)) (Some (found_as x)) (Some (found_as x))) (order_is a b ∙ (sym code ∙ e))
+    ap (λ p. match_ordering p (Some (text_difference_as y)) (Some (text_difference_as x)) (Some (text_difference_as x))) (order_is a b ∙ (sym code ∙ e))
 
 -- the first stays
 pub first_is : (x y : Found) (o : Ordering) → ordering_then (code_family_cmp y.differ.addr.family x.differ.addr.family) (nat_cmp y.differ.addr.bits x.differ.addr.bits) ≡ o → (o ≡ Equal) ⊎ (o ≡ Greater)
-    → lesser (Some (found_as x)) (Some (found_as y)) ≡ Some (found_as x)
+    → lesser (Some (text_difference_as x)) (Some (text_difference_as y)) ≡ Some (text_difference_as x)
 first_is x y o e (inl equal) = lesser_is x y Equal (e ∙ equal)
 first_is x y o e (inr greater) = lesser_is x y Greater (e ∙ greater)

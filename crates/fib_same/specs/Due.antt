@@ -7,55 +7,55 @@ use Rattle.table_model.specs.Address.{Address, Prefix}
 use Rattle.table_model.specs.Entries.{Entries, match_in}
 use Rattle.cert_model.specs.Verdict.{twice}
 use Rattle.fib_addr.specs.Hops.{hop_at}
-use Rattle.printed_model.specs.declared.kind.Kind.{Kind}
-use Rattle.printed_model.specs.Kinds.{KindEntries, kind_in}
-use Rattle.printed_model.specs.Texts.{BadLine as BadRow}
-use Rattle.texts_model.specs.Texts.{ComesTo, Difference, least_difference}
+use Rattle.printed_text.specs.declared.kind.Kind.{Kind}
+use Rattle.printed_text.specs.Kinds.{KindEntries, kind_in}
+use Rattle.printed_text.specs.Texts.{BadLine as BadRow}
+use Rattle.fib_same.specs.Texts.{ComparesTo, Difference, least_difference}
 
 -- What is wrong with a text of a number, from 1: it has more than 2^36 octets; its line of a number is bad for a reason; or a prefix
 -- stands twice in its rows of the kind.
-pub data Refusal : Type 0 where
-  TooLarge : ℕ → Refusal
-  BadLine : ℕ → ℕ → ℕ → Refusal
-  Twice : ℕ → Prefix → Refusal
+pub data TextRefusal : Type 0 where
+  TooLarge : ℕ → TextRefusal
+  BadLine : ℕ → ℕ → ℕ → TextRefusal
+  Twice : ℕ → Prefix → TextRefusal
 
 -- what isn't told, since an input's content isn't; or a refusal
-pub data Stop : Type 0 where
-  Untold : Stop
-  Refused : Refusal → Stop
+pub data TextStop : Type 0 where
+  Untold : TextStop
+  Refused : TextRefusal → TextStop
 
 -- ---- one text
 
 -- the content of an input, where it is told
-abbrev pub told_content : Option (List ℕ) → Result (List ℕ) Stop
-told_content None = Err Untold
-told_content (Some octets) = Ok octets
+abbrev pub text_content : Option (List ℕ) → Result (List ℕ) TextStop
+text_content None = Err Untold
+text_content (Some octets) = Ok octets
 
 -- unless they are more than are read
-unfoldable pub sized : ℕ → List ℕ → Result (List ℕ) Stop
-sized n octets = if nat_lt (2 ^ 36) (length octets) then Err (Refused (TooLarge n)) else Ok octets
+unfoldable pub sized_text : ℕ → List ℕ → Result (List ℕ) TextStop
+sized_text n octets = if nat_lt (2 ^ 36) (length octets) then Err (Refused (TooLarge n)) else Ok octets
 
 -- the octets of the text of this number and name
-unfoldable pub octets_at : (List ℕ → Option (List ℕ)) → ℕ → List ℕ → Result (List ℕ) Stop
-octets_at content n name = told_content (content name) >>= sized n
+unfoldable pub text_octets : (List ℕ → Option (List ℕ)) → ℕ → List ℕ → Result (List ℕ) TextStop
+text_octets content n name = text_content (content name) >>= sized_text n
 
 -- the entries that were read of it, or its first bad line
-abbrev pub rowed : ℕ → Result KindEntries BadRow → Result KindEntries Stop
-rowed n (Ok read) = Ok read
-rowed n (Err bad) = Err (Refused (BadLine n bad.line bad.why))
+abbrev pub rowed_text : ℕ → Result KindEntries BadRow → Result KindEntries TextStop
+rowed_text n (Ok read) = Ok read
+rowed_text n (Err bad) = Err (Refused (BadLine n bad.line bad.why))
 
 -- unless a prefix stands twice
-abbrev pub unless_twice : ℕ → KindEntries → Option Prefix → Result KindEntries Stop
+abbrev pub unless_twice : ℕ → KindEntries → Option Prefix → Result KindEntries TextStop
 unless_twice n read None = Ok read
 unless_twice n read (Some p) = Err (Refused (Twice n p))
 
 -- what is read of a text with these octets: it must be in the grammar, and then have each prefix once
-unfoldable pub entries_in : Kind → List Address → ℕ → List ℕ → Result KindEntries Stop
-entries_in kind hops n octets = rowed n (kind_in kind hops octets) >>= λ read. unless_twice n read (twice read.entries)
+unfoldable pub text_entries : Kind → List Address → ℕ → List ℕ → Result KindEntries TextStop
+text_entries kind hops n octets = rowed_text n (kind_in kind hops octets) >>= λ read. unless_twice n read (twice read.entries)
 
 -- the same of the text of a number and name; these hops have numbers before
-unfoldable pub text_at : (List ℕ → Option (List ℕ)) → Kind → List Address → ℕ → List ℕ → Result KindEntries Stop
-text_at content kind hops n name = octets_at content n name >>= entries_in kind hops n
+unfoldable pub text_at : (List ℕ → Option (List ℕ)) → Kind → List Address → ℕ → List ℕ → Result KindEntries TextStop
+text_at content kind hops n name = text_octets content n name >>= text_entries kind hops n
 
 -- ---- all texts
 
@@ -68,7 +68,7 @@ abbrev pub with_table : Entries → Tables → Tables
 with_table table more = record { tables = table ∷ more.tables; hops = more.hops }
 
 -- those of the texts of these names, which are numbered from n, or the first refusal: each text is judged before the next one
-abbrev pub texts_at : (List ℕ → Option (List ℕ)) → Kind → List Address → ℕ → List (List ℕ) → Result Tables Stop
+abbrev pub texts_at : (List ℕ → Option (List ℕ)) → Kind → List Address → ℕ → List (List ℕ) → Result Tables TextStop
 texts_at content kind hops n [] = Ok (record { tables = []; hops = hops })
 texts_at content kind hops n (name ∷ names) = text_at content kind hops n name >>= λ read. texts_at content kind read.hops (n + 1) names >>= λ more. Ok (with_table read.entries more)
 
@@ -79,7 +79,7 @@ pub record Compared : Type 0 where
   pub hops : List Address
 
 -- those of the texts of these names: the first is text 1
-unfoldable pub same_at : (List ℕ → Option (List ℕ)) → Kind → List ℕ → List (List ℕ) → Result Compared Stop
+unfoldable pub same_at : (List ℕ → Option (List ℕ)) → Kind → List ℕ → List (List ℕ) → Result Compared TextStop
 same_at content kind first rest = do
   read ← text_at content kind [] 1 first
   more ← texts_at content kind read.hops 2 rest
@@ -99,8 +99,8 @@ abbrev pub hop_from : List Address → Entries → Address → Option Address
 hop_from hops table a = hop_at hops (match_in table a)
 
 -- a difference, told of the tables
-abbrev pub told_of : Compared → Difference → TextDifference
-told_of t x = record {
+abbrev pub told_difference : Compared → Difference → TextDifference
+told_difference t x = record {
   text = x.text + 2;
   addr = x.addr;
   first = hop_from t.hops t.first x.addr;
@@ -109,12 +109,12 @@ told_of t x = record {
 
 -- the least address at which a text differs from the first, and the least text that does there; none if all are alike
 abbrev pub answer_of : Compared → Option TextDifference
-answer_of t = option_map (told_of t) (least_difference t.first t.others)
+answer_of t = option_map (told_difference t) (least_difference t.first t.others)
 
 -- The least difference is what comparing these tables comes to, and the answer tells it.
-abbrev pub Answers : Compared → Option TextDifference → Type 0
-Answers t answer = ComesTo t.first t.others (least_difference t.first t.others) × (answer ≡ answer_of t)
+abbrev pub TellsDifference : Compared → Option TextDifference → Type 0
+TellsDifference t answer = ComparesTo t.first t.others (least_difference t.first t.others) × (answer ≡ answer_of t)
 
 -- the answer that is due
-abbrev pub answer_at : (List ℕ → Option (List ℕ)) → Kind → List ℕ → List (List ℕ) → Result (Option TextDifference) Stop
+abbrev pub answer_at : (List ℕ → Option (List ℕ)) → Kind → List ℕ → List (List ℕ) → Result (Option TextDifference) TextStop
 answer_at content kind first rest = same_at content kind first rest >>= λ t. Ok (answer_of t)

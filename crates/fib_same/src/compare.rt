@@ -1,21 +1,21 @@
 //! Texts that are compared with the first.
 
 ghost use Rattle.std.specs.Prelude.{◌≡◌, ◌≤◌, ◌<◌, ◌+◌, ◌^◌, ◌∷◌, length, map, option_map, IfErr, IfOk};
-ghost use Rattle.texts_model.specs.Texts.{lesser};
+ghost use Rattle.fib_same.specs.Texts.{lesser};
 ghost use Rattle.fib_addr.specs.Hops.{most_hops};
 ghost use Rattle.fib_io.specs.Reads.{Makes};
 ghost use Rattle.cert_check.specs.Runs.{AreOfBoth};
 ghost use Rattle.fib_same.specs.Due.{answer_at, same_at, texts_at};
-ghost use Rattle.fib_same.specs.Gives.{FailsDue, GivesDue, ReadsNames, names_at, names_due};
-ghost use Rattle.fib_same.specs.Passes.{ReadsOf, numbered};
-ghost use Rattle.fib_same.specs.Views.{ComesFrom, EndsCompared, IsOneOf, IsSmall, difference_as, found_as, found_at, found_of};
+ghost use Rattle.fib_same.specs.Gives.{RefusesDue, ReturnsDue, ReadsNamedTexts, names_at, names_due};
+ghost use Rattle.fib_same.specs.Passes.{ReadsOfTexts, numbered_texts};
+ghost use Rattle.fib_same.specs.Views.{ComesFrom, EndsCompared, IsOneOf, IsSmall, difference_as, text_difference_as, found_at, found_of};
 
 use crate::error::SameError;
 use crate::text::read_text;
 use cert_check::{Differ, TableRuns};
-use cost_cert::Kind;
 use fib_addr::{Addr, HopTable};
 use fib_io::Inputs;
+use printed_text::Kind;
 use std::alloc::Global;
 use std::cmp::Ordering;
 
@@ -43,8 +43,8 @@ pub struct Found {
 
 /// Of two, the one at the lesser address; the first if that is the same.
 fn lesser(best: Option<Found>, next: Option<Found>) -> Option<Found>
-    ensures least { option_map found_as result
-        ≡ lesser (option_map found_as best) (option_map found_as next) }
+    ensures least { option_map text_difference_as result
+        ≡ lesser (option_map text_difference_as best) (option_map text_difference_as next) }
     ensures one { IsOneOf result best next }
 {
     match (best, next) {
@@ -83,13 +83,13 @@ fn compare_others<I: Inputs>(
     ensures found { IfOk result (ComesFrom (I.content inputs.old) kind hops.old hops.new
         (map (λ name. name.now) names.now) runs.now) }
     ensures small { IfOk result IsSmall }
-    ensures refused { IfErr result (λ e. FailsDue e (texts_at (I.content inputs.old) kind
+    ensures refused { IfErr result (λ e. RefusesDue e (texts_at (I.content inputs.old) kind
         hops.old.list 2 (map (λ name. name.now) names.now))) }
     ensures same { I.content inputs.new ≡ I.content inputs.old }
-    ensures cause { ReadsNames (names_due (I.content inputs.old) kind hops.old.list 2
+    ensures cause { ReadsNamedTexts (names_due (I.content inputs.old) kind hops.old.list 2
         (map (λ name. name.now) names.now)) (I.faults inputs.old) (I.faults inputs.new) result }
     ensures reads { Makes (I.reads inputs.old) (I.reads inputs.new)
-        (ReadsOf (numbered 2 (map (λ name. name.now) names.now)) result) }
+        (ReadsOfTexts (numbered_texts 2 (map (λ name. name.now) names.now)) result) }
 {
     let mut best = None;
     let mut place = 0;
@@ -133,15 +133,15 @@ pub fn compare_texts<I: Inputs>(
     rest: &[&str],
     kind: Kind,
 ) -> Result<Option<Difference>, SameError>
-    ensures due { GivesDue (option_map difference_as) result (answer_at (I.content inputs.old) kind
+    ensures due { ReturnsDue (option_map difference_as) result (answer_at (I.content inputs.old) kind
         first.now (map (λ name. name.now) rest.now)) }
     ensures answers { IfOk result (EndsCompared (same_at (I.content inputs.old) kind first.now
         (map (λ name. name.now) rest.now))) }
     ensures same { I.content inputs.new ≡ I.content inputs.old }
-    ensures cause { ReadsNames (names_at (I.content inputs.old) kind first.now
+    ensures cause { ReadsNamedTexts (names_at (I.content inputs.old) kind first.now
         (map (λ name. name.now) rest.now)) (I.faults inputs.old) (I.faults inputs.new) result }
     ensures reads { Makes (I.reads inputs.old) (I.reads inputs.new)
-        (ReadsOf (numbered 1 (first.now ∷ map (λ name. name.now) rest.now)) result) }
+        (ReadsOfTexts (numbered_texts 1 (first.now ∷ map (λ name. name.now) rest.now)) result) }
 {
     let mut hops = HopTable::new(alloc);
     let entries = read_text(alloc, inputs, first, 1, kind, &mut hops)?;

@@ -29,7 +29,7 @@ pub enum SameError {
         text: u64,
         /// The line's number, from 1.
         line: u64,
-        /// Why it is bad (`cost_cert::why`).
+        /// Why it is bad (`printed_text::why`).
         why: u8,
     },
     /// A prefix stands twice in a text's rows of the kind that is compared.

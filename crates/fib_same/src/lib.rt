@@ -10,7 +10,9 @@
 mod compare;
 mod error;
 mod text;
+mod texts_laws;
 
 pub use compare::{Difference, compare_texts};
 pub use error::SameError;
 pub use text::{octets_of, read_text};
+pub use texts_laws::{alike_law, found_law, least_law, next_law};

@@ -3,16 +3,16 @@
 ghost use Rattle.std.specs.Prelude.{◌≡◌, ◌≤◌, ◌∷◌, [], length, OnOk};
 ghost use Rattle.fib_addr.specs.Hops.{most_hops};
 ghost use Rattle.fib_io.specs.Reads.{Makes};
-ghost use Rattle.cost_cert.specs.Printed.{kind_as};
-ghost use Rattle.fib_same.specs.Due.{entries_in, octets_at, text_at};
-ghost use Rattle.fib_same.specs.Gives.{GivesDue, IsOfText, ReadsNames};
-ghost use Rattle.fib_same.specs.Passes.{ReadsOf};
+ghost use Rattle.printed_text.specs.Printed.{kind_as};
+ghost use Rattle.fib_same.specs.Due.{text_entries, text_octets, text_at};
+ghost use Rattle.fib_same.specs.Gives.{ReturnsDue, IsOfText, ReadsNamedTexts};
+ghost use Rattle.fib_same.specs.Passes.{ReadsOfTexts};
 
 use crate::error::SameError;
 use cert_check::first_twice;
-use cost_cert::{Kind, PrintedError, read_rows};
 use fib_addr::{Entry, HopTable};
 use fib_io::{Inputs, ReadError, read_whole};
+use printed_text::{Kind, PrintedError, read_rows};
 use std::alloc::Global;
 
 /// The octets of the text of this name and number, which is read to its end.
@@ -20,19 +20,19 @@ use std::alloc::Global;
 /// # Errors
 ///
 /// The text is too large. A failed read, or no memory.
-#[tactic(auto, using(crate::proofs::Reading::text_read, crate::proofs::Reading::text_fails, crate::proofs::Reading::text_large, crate::proofs::Reading::text_begun), unfolding(crate::specs::Due::octets_at, crate::specs::Due::sized))]
+#[tactic(auto, using(crate::proofs::Reading::text_read, crate::proofs::Reading::text_fails, crate::proofs::Reading::text_large, crate::proofs::Reading::text_begun), unfolding(crate::specs::Due::text_octets, crate::specs::Due::sized_text))]
 pub fn octets_of<I: Inputs>(
     alloc: Global,
     inputs: &mut I,
     name: &str,
     text: u64,
 ) -> Result<Vec<u8>, SameError>
-    ensures due { GivesDue (λ v. v.items) result
-        (octets_at (I.content inputs.old) text name.now) }
+    ensures due { ReturnsDue (λ v. v.items) result
+        (text_octets (I.content inputs.old) text name.now) }
     ensures same { I.content inputs.new ≡ I.content inputs.old }
-    ensures cause { ReadsNames (name.now ∷ []) (I.faults inputs.old) (I.faults inputs.new) result }
+    ensures cause { ReadsNamedTexts (name.now ∷ []) (I.faults inputs.old) (I.faults inputs.new) result }
     ensures reads { Makes (I.reads inputs.old) (I.reads inputs.new)
-        (ReadsOf ((text, name.now) ∷ []) result) }
+        (ReadsOfTexts ((text, name.now) ∷ []) result) }
 {
     match read_whole(alloc, inputs, name) {
         Ok(octets) => Ok(octets),
@@ -43,7 +43,7 @@ pub fn octets_of<I: Inputs>(
 }
 
 /// The entries that a text with these octets says, which are let go once it is read. Each prefix stands in them once.
-#[tactic(auto, unfolding(crate::specs::Due::entries_in))]
+#[tactic(auto, unfolding(crate::specs::Due::text_entries))]
 fn entries_of(
     alloc: Global,
     octets: Vec<u8>,
@@ -52,8 +52,8 @@ fn entries_of(
     hops: &mut HopTable,
 ) -> Result<Vec<Entry>, SameError>
     requires { length hops.old.list ≤ most_hops }
-    ensures due { GivesDue (λ v. kind_as v hops.new) result
-        (entries_in kind hops.old.list text octets.items) }
+    ensures due { ReturnsDue (λ v. kind_as v hops.new) result
+        (text_entries kind hops.old.list text octets.items) }
     ensures few { OnOk result (length hops.new.list ≤ most_hops) }
     ensures of_text { IsOfText text result }
 {
@@ -90,13 +90,13 @@ pub fn read_text<I: Inputs>(
     hops: &mut HopTable,
 ) -> Result<Vec<Entry>, SameError>
     requires { length hops.old.list ≤ most_hops }
-    ensures due { GivesDue (λ v. kind_as v hops.new) result
+    ensures due { ReturnsDue (λ v. kind_as v hops.new) result
         (text_at (I.content inputs.old) kind hops.old.list text name.now) }
     ensures few { OnOk result (length hops.new.list ≤ most_hops) }
     ensures same { I.content inputs.new ≡ I.content inputs.old }
-    ensures cause { ReadsNames (name.now ∷ []) (I.faults inputs.old) (I.faults inputs.new) result }
+    ensures cause { ReadsNamedTexts (name.now ∷ []) (I.faults inputs.old) (I.faults inputs.new) result }
     ensures reads { Makes (I.reads inputs.old) (I.reads inputs.new)
-        (ReadsOf ((text, name.now) ∷ []) result) }
+        (ReadsOfTexts ((text, name.now) ∷ []) result) }
 {
     let octets = octets_of(alloc, inputs, name, text)?;
     entries_of(alloc, octets, text, kind, hops)

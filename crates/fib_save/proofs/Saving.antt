@@ -3,7 +3,7 @@ use Rattle.std.proofs.Common.{◌≡◌, ◌≤◌, ℕ, List, [], ◌++◌, len
 use Rattle.std.specs.List.{AllByRecursion}
 use Rattle.route_model.specs.Events.{Event}
 use Rattle.fib_prefix.specs.Views.{IsOfOctets}
-use Rattle.saved_model.specs.Saved.{long_one, most_peers, peers_with_candidates, saved}
+use Rattle.mrt_write.specs.Saved.{long_one, most_peers, peers_with_candidates, saved}
 use Rattle.mrt_write.specs.Answers.{WriterAnswers}
 use Rattle.mrt_write.specs.Reads.{ReadsAs, after_events}
 use Rattle.mrt_write.proofs.Reading.{saved_reads}
@@ -14,10 +14,10 @@ use Rattle.std.specs.declared.vec.Vec.{Vec}
 use Rattle.route_model.specs.Choice.{AreCandidates, Candidates}
 use Rattle.fib_io.specs.Reads.{AtEnd, Makes, PassEnd, Read}
 use Rattle.fib_io.proofs.Passing.{makes_then}
-use Rattle.whole_input.specs.Whole.{FaultRose, HasEvents, end_by}
-use Rattle.whole_input.specs.declared.whole.WholeError.{WholeError}
-use Rattle.whole_input.specs.declared.whole.WholeError.TheVariants as whole
-use Rattle.fib_save.specs.Brings.{Brings, HasNamed, Takes}
+use Rattle.mrt_read.specs.Whole.{FaultRose, HasEvents, pass_end_by}
+use Rattle.mrt_read.specs.declared.whole.WholeError.{WholeError}
+use Rattle.mrt_read.specs.declared.whole.WholeError.TheVariants as whole
+use Rattle.fib_save.specs.Brings.{Brings, HasNamed, TakesInput}
 use Rattle.fib_save.specs.Saves.{BringsNone, FaultOf, PassOf, SaveAnswers, SaveFaults, SaveReads, UpdatesStop, Written}
 use Rattle.fib_save.specs.declared.save.SaveError.{SaveError}
 use Rattle.fib_save.specs.declared.save.SaveError.TheVariants.{Dump, Updates, Unwritten}
@@ -27,7 +27,7 @@ abbrev pub Content : Type 0
 Content = List ℕ → Option (List ℕ)
 
 -- the dump alone
-pub brings_dump : (content : Content) (dump : List ℕ) (updates : Option (List ℕ)) (none held : Candidates) → none ≡ [] → updates ≡ None → Takes (content dump) none held → Brings content dump updates held
+pub brings_dump : (content : Content) (dump : List ℕ) (updates : Option (List ℕ)) (none held : Candidates) → none ≡ [] → updates ≡ None → TakesInput (content dump) none held → Brings content dump updates held
 brings_dump content dump updates none held e n t = record {
   load = t.events;
   loaded = t.has;
@@ -37,7 +37,7 @@ brings_dump content dump updates none held e n t = record {
 }
 
 -- and then the updates
-pub brings_updates : (content now : Content) (dump name : List ℕ) (updates : Option (List ℕ)) (none mid held : Candidates) → none ≡ [] → updates ≡ Some name → now ≡ content → Takes (content dump) none mid → Takes (now name) mid held → Brings content dump updates held
+pub brings_updates : (content now : Content) (dump name : List ℕ) (updates : Option (List ℕ)) (none mid held : Candidates) → none ≡ [] → updates ≡ Some name → now ≡ content → TakesInput (content dump) none mid → TakesInput (now name) mid held → Brings content dump updates held
 brings_updates content now dump name updates none mid held e n same t u = record {
   load = t.events;
   loaded = t.has;
@@ -63,8 +63,8 @@ later_fault before mid now name error e h = subst (λ (b : List ℕ → ℕ). Fa
 pub reads_of_same : (content later : Content) (before now : Option (List Read)) (end : PassEnd) (name : List ℕ) → later ≡ content → Makes before now (PassOf later end name) → Makes before now (PassOf content end name)
 reads_of_same content later before now end name e h = subst (λ (c : Content). Makes before now (PassOf c end name)) e h
 
-pub updates_read : (content : Content) (before mid now : Option (List Read)) (dump name : List ℕ) (updates : Option (List ℕ)) (error : WholeError) → updates ≡ Some name → Makes before mid (PassOf content AtEnd dump) → Makes mid now (PassOf content (end_by error) name) → Makes before now (UpdatesStop content dump updates (end_by error))
-updates_read content before mid now dump name updates error e h g = makes_then before mid now (PassOf content AtEnd dump) (PassOf content (end_by error) name) (UpdatesStop content dump updates (end_by error)) h g (λ first next p q. (first, next, refl, p, name, e, q))
+pub updates_read : (content : Content) (before mid now : Option (List Read)) (dump name : List ℕ) (updates : Option (List ℕ)) (error : WholeError) → updates ≡ Some name → Makes before mid (PassOf content AtEnd dump) → Makes mid now (PassOf content (pass_end_by error) name) → Makes before now (UpdatesStop content dump updates (pass_end_by error))
+updates_read content before mid now dump name updates error e h g = makes_then before mid now (PassOf content AtEnd dump) (PassOf content (pass_end_by error) name) (UpdatesStop content dump updates (pass_end_by error)) h g (λ first next p q. (first, next, refl, p, name, e, q))
 
 -- ---- what isn't brought isn't saved
 

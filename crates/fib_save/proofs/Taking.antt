@@ -13,18 +13,18 @@ use Rattle.fib_prefix.specs.declared.event.Event as code_event
 use Rattle.fib_io.specs.Pieces.{ComeNext, IsEnd, IsLarge}
 use Rattle.fib_io.specs.declared.pieces.ReadError.{ReadError}
 use Rattle.fib_io.specs.declared.pieces.ReadError.TheVariants as pieces
-use Rattle.mrt_frame.specs.declared.Malformed as code_malformed
+use Rattle.mrt_read.specs.declared.framer.Malformed as code_malformed
 use Rattle.mrt_read.specs.Standing as reading
 use Rattle.mrt_read.specs.declared.reader.Reader.{Reader}
 use Rattle.mrt_read.specs.declared.reader.EventsError.{EventsError}
-use Rattle.reading_model.specs.Input.{start}
-use Rattle.whole_input.specs.Whole.{IsRefused, MayGoOn, of_input, of_read}
-use Rattle.whole_input.specs.declared.whole.WholeError.TheVariants.{Malformed}
-use Rattle.whole_input.proofs.Cutting.{IsCutNow}
-use Rattle.whole_input.proofs.Gathering.{Gathering, gathering_feeds, gathering_start, gathering_takes, goes_on_at, has_all}
-use Rattle.whole_input.proofs.Gathering as gathering
+use Rattle.wire_model.specs.Input.{start}
+use Rattle.mrt_read.specs.Whole.{IsInputRefused, MayGoOn, of_input, of_read}
+use Rattle.mrt_read.specs.declared.whole.WholeError.TheVariants.{Malformed}
+use Rattle.mrt_read.proofs.Cutting.{IsCutNow}
+use Rattle.mrt_read.proofs.Gathering.{Gathering, gathering_feeds, gathering_start, gathering_takes, goes_on_at, has_all}
+use Rattle.mrt_read.proofs.Gathering as gathering
 use Rattle.mrt_write.specs.Reads.{after_events}
-use Rattle.fib_save.specs.Brings.{Takes}
+use Rattle.fib_save.specs.Brings.{TakesInput}
 
 -- ---- events one after another
 
@@ -82,16 +82,16 @@ taking_takes content before mid now old new at more s t is = record {
   are = is ∙ (ap (λ c. after_events c (map event_as more)) s.are ∙ (sym (events_more before (map event_as s.events) (map event_as more)) ∙ ap (after_events before) (sym (map-append event_as s.events more))));
 }
 
-pub takes_all : (content : Option (List ℕ)) (before now : Candidates) (reader : Reader) (at : ℕ) → IfSome content (λ c. IsEnd c at) → Taking content before reader at now → reading.ReaderTells reader (Ok tt) → Takes content before now
+pub takes_all : (content : Option (List ℕ)) (before now : Candidates) (reader : Reader) (at : ℕ) → IfSome content (λ c. IsEnd c at) → Taking content before reader at now → reading.ReaderTells reader (Ok tt) → TakesInput content before now
 takes_all content before now reader at end s t = record { events = map event_as s.events; has = has_all content reader at s.events end s.gathered t; are = s.are }
 
-pub refused_read : (content : Option (List ℕ)) (before now : Candidates) (old new : Reader) (at : ℕ) (error : EventsError) (more : List code_event.Event) → Taking content before old at now → reading.ReaderFills (Err error) (map event_as more) (reading.reader_next old) → reading.ReaderFilled old (Err error) (map event_as more) new → IfSome content (IsRefused (of_read error))
+pub refused_read : (content : Option (List ℕ)) (before now : Candidates) (old new : Reader) (at : ℕ) (error : EventsError) (more : List code_event.Event) → Taking content before old at now → reading.ReaderFills (Err error) (map event_as more) (reading.reader_next old) → reading.ReaderFilled old (Err error) (map event_as more) new → IfSome content (IsInputRefused (of_read error))
 refused_read content before now old new at error more s next t = gathering.refused_read content old new at s.events error more s.gathered next t
 
-pub refused_end : (content : Option (List ℕ)) (before now : Candidates) (reader : Reader) (at : ℕ) (malformed : code_malformed.Malformed) → IfSome content (λ c. IsEnd c at) → Taking content before reader at now → reading.ReaderTells reader (Err malformed) → IfSome content (IsRefused (Malformed malformed))
+pub refused_end : (content : Option (List ℕ)) (before now : Candidates) (reader : Reader) (at : ℕ) (malformed : code_malformed.Malformed) → IfSome content (λ c. IsEnd c at) → Taking content before reader at now → reading.ReaderTells reader (Err malformed) → IfSome content (IsInputRefused (Malformed malformed))
 refused_end content before now reader at malformed end s t = gathering.refused_end content reader at s.events malformed end s.gathered t
 
-pub refused_piece : (content : Option (List ℕ)) (before now : Candidates) (reader : Reader) (at : ℕ) (error : ReadError) → (IsErrOf {T = ℕ} (Err error) pieces.TooLarge → IfSome content (λ c. IsLarge c at)) → Taking content before reader at now → IsCutNow reader → IfSome content (IsRefused (of_input error))
+pub refused_piece : (content : Option (List ℕ)) (before now : Candidates) (reader : Reader) (at : ℕ) (error : ReadError) → (IsErrOf {T = ℕ} (Err error) pieces.TooLarge → IfSome content (λ c. IsLarge c at)) → Taking content before reader at now → IsCutNow reader → IfSome content (IsInputRefused (of_input error))
 refused_piece content before now reader at error large s cut = gathering.refused_piece content reader at s.events error large s.gathered cut
 
 -- what was fed breaks no rule but that its last record is cut

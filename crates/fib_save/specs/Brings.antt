@@ -2,11 +2,11 @@
 use Rattle.std.specs.Prelude.{◌≡◌, List, [], ◌++◌, ℕ, Option, Some, None, IfSome}
 use Rattle.route_model.specs.Events.{Event}
 use Rattle.route_model.specs.Choice.{Candidates}
-use Rattle.whole_input.specs.Whole.{HasEvents}
+use Rattle.mrt_read.specs.Whole.{HasEvents}
 use Rattle.mrt_write.specs.Reads.{after_events}
 
 -- the candidates are those after all events of an input
-pub record Takes (content : Option (List ℕ)) (before now : Candidates) : Type 0 where
+pub record TakesInput (content : Option (List ℕ)) (before now : Candidates) : Type 0 where
   pub events : List Event
   pub has : IfSome content (HasEvents events)
   pub are : now ≡ after_events before events

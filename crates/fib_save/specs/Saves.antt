@@ -5,9 +5,9 @@ use Rattle.route_model.specs.Events.{Event}
 use Rattle.route_model.specs.Choice.{Candidates}
 use Rattle.fib_io.specs.Causes.{Rose}
 use Rattle.fib_io.specs.Reads.{AtEnd, PassEnd, PassInTime, Read}
-use Rattle.whole_input.specs.Whole.{HasEvents, IsRefused, MayGoOn, end_by}
-use Rattle.whole_input.specs.declared.whole.WholeError.{WholeError}
-use Rattle.whole_input.specs.declared.whole.WholeError.TheVariants as whole
+use Rattle.mrt_read.specs.Whole.{HasEvents, IsInputRefused, MayGoOn, pass_end_by}
+use Rattle.mrt_read.specs.declared.whole.WholeError.{WholeError}
+use Rattle.mrt_read.specs.declared.whole.WholeError.TheVariants as whole
 use Rattle.mrt_write.specs.Answers.{WriterAnswers}
 use Rattle.mrt_write.specs.declared.write.WriteError.{WriteError}
 use Rattle.fib_save.specs.Brings.{Brings}
@@ -21,11 +21,11 @@ Written content dump updates result = (held : Candidates) × (brings : Brings co
 
 -- why the updates aren't read to their end: the dump is, and theirs is the refusal
 abbrev pub UpdatesRefused : (List ℕ → Option (List ℕ)) → List ℕ → Option (List ℕ) → WholeError → Type 0
-UpdatesRefused content dump updates error = (load : List Event) × IfSome (content dump) (HasEvents load) × (name : List ℕ) × (updates ≡ Some name) × IfSome (content name) (IsRefused error)
+UpdatesRefused content dump updates error = (load : List Event) × IfSome (content dump) (HasEvents load) × (name : List ℕ) × (updates ≡ Some name) × IfSome (content name) (IsInputRefused error)
 
 -- why the inputs bring nothing
 abbrev pub BringsNone : (List ℕ → Option (List ℕ)) → List ℕ → Option (List ℕ) → SaveError → Type 0
-BringsNone content dump updates (Dump error) = IfSome (content dump) (IsRefused error)
+BringsNone content dump updates (Dump error) = IfSome (content dump) (IsInputRefused error)
 BringsNone content dump updates (Updates error) = UpdatesRefused content dump updates error
 BringsNone content dump updates (Unwritten error) = ⊥
 
@@ -33,7 +33,7 @@ BringsNone content dump updates (Unwritten error) = ⊥
 abbrev pub SaveAnswers : {A : Type 0} → (List ℕ → Option (List ℕ)) → List ℕ → Option (List ℕ) → Result (Vec ℕ A) SaveError → Type 0
 SaveAnswers {A = A} content dump updates (Ok v) = Written {A = A} content dump updates (Ok v)
 SaveAnswers {A = A} content dump updates (Err (Unwritten error)) = Written {A = A} content dump updates (Err error)
-SaveAnswers {A = A} content dump updates (Err (Dump error)) = IfSome (content dump) (IsRefused error)
+SaveAnswers {A = A} content dump updates (Err (Dump error)) = IfSome (content dump) (IsInputRefused error)
 SaveAnswers {A = A} content dump updates (Err (Updates error)) = UpdatesRefused content dump updates error
 
 -- a fault comes only where the count of the input rose, and every other answer leaves all counts
@@ -72,5 +72,5 @@ UpdatesStop content dump updates end reads = (first last : List Read) × (reads 
 abbrev pub SaveReads : {T : Type 0} → (List ℕ → Option (List ℕ)) → List ℕ → Option (List ℕ) → Result T SaveError → List Read → Type 0
 SaveReads content dump updates (Ok x) reads = AllRead content (input_names dump updates) reads
 SaveReads content dump updates (Err (Unwritten error)) reads = AllRead content (input_names dump updates) reads
-SaveReads content dump updates (Err (Dump error)) reads = PassOf content (end_by error) dump reads
-SaveReads content dump updates (Err (Updates error)) reads = UpdatesStop content dump updates (end_by error) reads
+SaveReads content dump updates (Err (Dump error)) reads = PassOf content (pass_end_by error) dump reads
+SaveReads content dump updates (Err (Updates error)) reads = UpdatesStop content dump updates (pass_end_by error) reads

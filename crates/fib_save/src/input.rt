@@ -2,15 +2,14 @@
 
 ghost use Rattle.std.specs.Prelude.{◌≡◌, ◌<◌, length, IfErr, IfSome, OnOk};
 ghost use Rattle.fib_io.specs.Reads.{Makes, PassInTime};
-ghost use Rattle.whole_input.specs.Whole.{FaultRose, IsRefused, MayGoOn, end_of};
-ghost use Rattle.fib_save.specs.Brings.{Takes};
+ghost use Rattle.mrt_read.specs.Whole.{FaultRose, IsInputRefused, MayGoOn, end_of};
+ghost use Rattle.fib_save.specs.Brings.{TakesInput};
 
 use crate::take::take_events;
 use fib_io::{Inputs, piece_room, read_piece};
-use mrt_read::Reader;
+use mrt_read::{Reader, WholeError};
 use route_choice::Candidates;
 use std::alloc::Global;
-use whole_input::WholeError;
 
 /// Takes all events of an input, read through this room.
 fn take_through<I: Inputs>(
@@ -21,10 +20,10 @@ fn take_through<I: Inputs>(
     room: &mut [u8],
 ) -> Result<(), WholeError>
     requires { 0 < length room.old }
-    ensures takes { OnOk result (Takes (I.content inputs.old name.now)
+    ensures takes { OnOk result (TakesInput (I.content inputs.old name.now)
         candidates.old.candidates candidates.new.candidates) }
     ensures refused { IfErr result (λ error. IfSome (I.content inputs.old name.now)
-        (IsRefused error)) }
+        (IsInputRefused error)) }
     ensures same { I.content inputs.new ≡ I.content inputs.old }
     ensures cause { FaultRose (I.faults inputs.old) (I.faults inputs.new) name.now result }
     ensures reads { Makes (I.reads inputs.old) (I.reads inputs.new)
@@ -54,10 +53,10 @@ pub fn take_input<I: Inputs>(
     name: &str,
     candidates: &mut Candidates,
 ) -> Result<(), WholeError>
-    ensures takes { OnOk result (Takes (I.content inputs.old name.now)
+    ensures takes { OnOk result (TakesInput (I.content inputs.old name.now)
         candidates.old.candidates candidates.new.candidates) }
     ensures refused { IfErr result (λ error. IfSome (I.content inputs.old name.now)
-        (IsRefused error)) }
+        (IsInputRefused error)) }
     ensures same { I.content inputs.new ≡ I.content inputs.old }
     ensures cause { FaultRose (I.faults inputs.old) (I.faults inputs.new) name.now result }
     ensures reads { Makes (I.reads inputs.old) (I.reads inputs.new)

@@ -8,6 +8,6 @@ mod input;
 mod save;
 mod take;
 
+pub use mrt_read::WholeError;
 pub use mrt_write::WriteError;
 pub use save::{SaveError, save_inputs};
-pub use whole_input::WholeError;

@@ -11,11 +11,11 @@ ghost use Rattle.fib_save.specs.Saves.{BringsNone, SaveAnswers, SaveFaults, Save
 
 use crate::input::take_input;
 use fib_io::Inputs;
+use mrt_read::WholeError;
 use mrt_write::{DumpPlan, WriteError};
 use route_choice::Candidates;
 use std::alloc::Global;
 use thiserror::Error;
-use whole_input::WholeError;
 
 /// Why there is no checkpoint.
 #[derive(Clone, Copy, Debug, PartialEq, Eq, Error)]
@@ -68,9 +68,9 @@ fn checkpoint(alloc: Global, candidates: &Candidates) -> Result<Vec<u8>, WriteEr
     ensures held { AreCandidates candidates.now.candidates }
 {
     let mut plan = DumpPlan::new(alloc);
-    candidates.hand_all(&mut plan)?;
+    candidates.emit_all(&mut plan)?;
     let mut dump = plan.begin()?;
-    candidates.hand_all(&mut dump)?;
+    candidates.emit_all(&mut dump)?;
     let octets = dump.finish()?;
     Ok(octets)
 }

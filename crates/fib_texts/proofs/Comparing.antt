@@ -14,7 +14,7 @@ use Rattle.fib_same.specs.Due.{Compared, answer_of}
 use Rattle.fib_same.specs.Due as same
 use Rattle.fib_same.specs.Gives as gives
 use Rattle.fib_same.specs.Passes as passes
-use Rattle.fib_same.specs.Passes.{numbered}
+use Rattle.fib_same.specs.Passes.{numbered_texts}
 use Rattle.fib_same.specs.Views.{EndsCompared, difference_as}
 use Rattle.fib_same.specs.declared.compare.Difference as code_difference
 use Rattle.fib_same.specs.declared.error.SameError.{SameError}
@@ -22,11 +22,11 @@ use Rattle.fib_same.specs.declared.error.SameError.TheVariants as same_error
 use Rattle.fib_words.specs.Commands.{Asked}
 use Rattle.router_moves.specs.Due.{moves_for}
 use Rattle.router_moves.specs.Due as router
-use Rattle.router_model.specs.Claims.{WrongMoves}
+use Rattle.moves_model.specs.Claims.{WrongMoves}
 use Rattle.router_moves.specs.Checked.{verdict_for}
 use Rattle.router_moves.specs.Checked as claims
 use Rattle.router_moves.specs.Judged.{EndsJudged, verdict_as}
-use Rattle.router_moves.specs.Views.{EndsShortest, moves_as}
+use Rattle.router_moves.specs.Views.{EndsShortest, shortest_as}
 use Rattle.router_moves.specs.declared.answer.RouterMoves.{RouterMoves}
 use Rattle.router_moves.specs.declared.verdict.MovesVerdict.{MovesVerdict}
 use Rattle.cert_check.specs.Views.{no_as}
@@ -37,12 +37,12 @@ use Rattle.fib_due.specs.declared.outcome.Which.TheVariants.{Text}
 use Rattle.fib_due.specs.declared.reply.Reply as code_reply
 use Rattle.fib_due.specs.declared.reply.Wrong as code_wrong
 use Rattle.fib_due.specs.declared.reply.Wrong.TheVariants as wrong
-use Rattle.fib_texts.specs.Comparing.{Refuses, RepliesTo, answer_reply, answer_says, moves_reply, moves_say, verdict_reply, verdict_says}
+use Rattle.fib_texts.specs.Comparing.{RepliesRefusal, RepliesTo, answer_reply, answer_says, moves_reply, moves_say, verdict_reply, verdict_says}
 use Rattle.fib_due.specs.Due.{Alike, Claimed, Moved, MovesRefuted, Output, Refuted, Repeats, Reply, of_texts, reply_of, with_reply}
 use Rattle.fib_due.specs.Ends.{OneRose, ReadsNames}
 use Rattle.fib_due.specs.InTime.{TextMayGoOn}
 use Rattle.fib_due.specs.Owned.{HasInput, IsNo, IsOf, IsOfMoves, IsOfTexts, StoppedAt}
-use Rattle.fib_due.specs.Passes.{AllRead, Content, Input, MayBegin, ReadInPart, ReadToOne, ReadUpTo, ReadsCompared, ReadsFound, texts_from}
+use Rattle.fib_due.specs.Passes.{InputsRead, Content, Input, MayBegin, ReadInPart, ReadToOne, ReadUpTo, ReadsCompared, ReadsFound, texts_from}
 use Rattle.fib_due.specs.Stops.{GivesDue, Stop}
 use Rattle.fib_due.specs.Untold.{ClaimedOfSome, ComparedOfSome, MovedOfSome}
 use Rattle.fib_due.specs.Views.{reply_as, wrong_as}
@@ -56,11 +56,11 @@ Replied = Result code_reply.Reply Outcome
 abbrev fine : Reply → Result Reply Stop
 fine x = Ok x
 
-abbrev fine_text : {Y : Type 0} → Y → Result Y same.Stop
+abbrev fine_text : {Y : Type 0} → Y → Result Y same.TextStop
 fine_text y = Ok y
 
 -- a refusal of texts that is due
-refused_due : {X Y : Type 0} (out : X → Output) (of : X → Y) (d : Result X same.Stop) (e : SameError) (s : Replied) → Refuses e s → gives.FailsDue e (d >>= λ x. fine_text (of x)) → GivesDue reply_as s (with_reply (of_texts out d))
+refused_due : {X Y : Type 0} (out : X → Output) (of : X → Y) (d : Result X same.TextStop) (e : SameError) (s : Replied) → RepliesRefusal e s → gives.RefusesDue e (d >>= λ x. fine_text (of x)) → GivesDue reply_as s (with_reply (of_texts out d))
 refused_due out of (Ok t) (same_error.Twice n p) (Ok reply) is due = absurd cc
 refused_due out of (Err same.Untold) (same_error.Twice n p) (Ok reply) is due = tt
 refused_due out of (Err (same.Refused (same.TooLarge m))) (same_error.Twice n p) (Ok reply) is due = absurd cc
@@ -81,8 +81,8 @@ refused_due out of d same_error.NoMemory (Ok reply) is due = absurd is
 refused_due out of d same_error.NoMemory (Err o) is due = rw is tt
 
 -- what was found is what is due, and so is the reply that says it
-pub reply_due : {T X Y : Type 0} (view : T → Y) (says : Y → Reply) (out : X → Output) (of : X → Y) → ((x : X) → reply_of (out x) ≡ says (of x)) → (d : Result X same.Stop) (r : Result T SameError) (s : Replied) → RepliesTo (λ x. says (view x)) r s
-    → gives.GivesDue view r (d >>= λ x. fine_text (of x)) → GivesDue reply_as s (with_reply (of_texts out d))
+pub reply_due : {T X Y : Type 0} (view : T → Y) (says : Y → Reply) (out : X → Output) (of : X → Y) → ((x : X) → reply_of (out x) ≡ says (of x)) → (d : Result X same.TextStop) (r : Result T SameError) (s : Replied) → RepliesTo (λ x. says (view x)) r s
+    → gives.ReturnsDue view r (d >>= λ x. fine_text (of x)) → GivesDue reply_as s (with_reply (of_texts out d))
 reply_due view says out of said (Ok t) (Ok x) (Ok reply) is due = let e : view x ≡ of t = cc in ap fine (said t ∙ (ap says (sym e) ∙ sym is))
 reply_due view says out of said (Err same.Untold) (Ok x) (Ok reply) is due = tt
 reply_due view says out of said (Err (same.Refused x)) (Ok y) (Ok reply) is due = absurd cc
@@ -108,15 +108,15 @@ reply_some view says out of said (Err same_error.NoMemory) (Ok reply) is ends = 
 reply_some view says out of said (Err same_error.NoMemory) (Err o) is ends = inl (1, rw is tt)
 
 -- a comparison
-pub same_some : (d : Result Compared same.Stop) (r : Result (Option code_difference.Difference) SameError) (s : Replied) → RepliesTo answer_says r s → IfOk r (EndsCompared d) → ComparedOfSome s
+pub same_some : (d : Result Compared same.TextStop) (r : Result (Option code_difference.Difference) SameError) (s : Replied) → RepliesTo answer_says r s → IfOk r (EndsCompared d) → ComparedOfSome s
 same_some d r s is ends = reply_some (option_map difference_as) answer_reply Alike answer_of (λ t. refl) r s is (IfOk-weaker r (EndsCompared d) (λ x. (t : Compared) × (option_map difference_as x ≡ answer_of t)) (λ x e. (e.0, e.2.1)) ends)
 
 -- what a router must change
-pub moves_some : (steady : Bool) (d : Result router.Asked same.Stop) (r : Result RouterMoves SameError) (s : Replied) → RepliesTo moves_say r s → IfOk r (EndsShortest steady d) → MovedOfSome steady s
-moves_some steady d r s is ends = reply_some moves_as moves_reply (Moved steady) (moves_for steady) (λ t. refl) r s is (IfOk-weaker r (EndsShortest steady d) (λ x. (t : router.Asked) × (moves_as x ≡ moves_for steady t)) (λ x e. (e.0, e.2)) ends)
+pub moves_some : (steady : Bool) (d : Result router.RouterTables same.TextStop) (r : Result RouterMoves SameError) (s : Replied) → RepliesTo moves_say r s → IfOk r (EndsShortest steady d) → MovedOfSome steady s
+moves_some steady d r s is ends = reply_some shortest_as moves_reply (Moved steady) (moves_for steady) (λ t. refl) r s is (IfOk-weaker r (EndsShortest steady d) (λ x. (t : router.RouterTables) × (shortest_as x ≡ moves_for steady t)) (λ x e. (e.0, e.2)) ends)
 
 -- what it was told to change
-pub verdict_some : (d : Result claims.Claimed same.Stop) (r : Result MovesVerdict SameError) (s : Replied) → RepliesTo verdict_says r s → IfOk r (EndsJudged d) → ClaimedOfSome s
+pub verdict_some : (d : Result claims.Claimed same.TextStop) (r : Result MovesVerdict SameError) (s : Replied) → RepliesTo verdict_says r s → IfOk r (EndsJudged d) → ClaimedOfSome s
 verdict_some d r s is ends = reply_some verdict_as verdict_reply Claimed verdict_for (λ t. refl) r s is (IfOk-weaker r (EndsJudged d) (λ x. (t : claims.Claimed) × (verdict_as x ≡ verdict_for t)) (λ x e. (e.0, e.2)) ends)
 
 -- a refusal is one of a command that reads texts and judges them
@@ -136,7 +136,7 @@ rose_too [] before now r = r
 rose_too (name ∷ names) before now (inl r) = inl r
 rose_too (name ∷ names) before now (inr r) = inr (rose_too names before now r)
 
-pub reply_cause : {T : Type 0} (says : T → Reply) (names : List (List ℕ)) (before now : List ℕ → ℕ) (r : Result T SameError) (s : Replied) → RepliesTo says r s → gives.ReadsNames names before now r → ReadsNames names before now s
+pub reply_cause : {T : Type 0} (says : T → Reply) (names : List (List ℕ)) (before now : List ℕ → ℕ) (r : Result T SameError) (s : Replied) → RepliesTo says r s → gives.ReadsNamedTexts names before now r → ReadsNames names before now s
 reply_cause says names before now (Ok answer) (Ok reply) is c = c
 reply_cause says names before now (Ok answer) (Err o) is c = rw is c
 reply_cause says names before now (Err (same_error.Twice n p)) (Ok reply) is c = c
@@ -156,15 +156,15 @@ reply_cause says names before now (Err same_error.NoMemory) (Err o) is c = rw is
 abbrev input_as : ℕ × List ℕ → Input
 input_as x = (Text x.0, x.1)
 
-texts_as : (n : ℕ) (names : List (List ℕ)) → map input_as (numbered n names) ≡ texts_from n names
+texts_as : (n : ℕ) (names : List (List ℕ)) → map input_as (numbered_texts n names) ≡ texts_from n names
 texts_as n [] = refl
 texts_as n (name ∷ names) = ap (λ xs. (Text n, name) ∷ xs) (texts_as (n + 1) names)
 
-all_as : (content : Content) (xs : List (ℕ × List ℕ)) (reads : List Read) → passes.AllRead xs reads → AllRead content TextMayGoOn (map input_as xs) reads
+all_as : (content : Content) (xs : List (ℕ × List ℕ)) (reads : List Read) → passes.TextsRead xs reads → InputsRead content TextMayGoOn (map input_as xs) reads
 all_as content [] reads p = p
 all_as content (x ∷ xs) reads p = (p.0, p.1, p.2, pass_of_text (content x.1) AtEnd x.1 p.0 p.3, all_as content xs p.1 p.4)
 
-up_to_as : (content : Content) (xs : List (ℕ × List ℕ)) (n : ℕ) (end : PassEnd) (reads : List Read) → passes.ReadUpTo xs n end reads → ReadUpTo content TextMayGoOn (map input_as xs) (Text n) end reads
+up_to_as : (content : Content) (xs : List (ℕ × List ℕ)) (n : ℕ) (end : PassEnd) (reads : List Read) → passes.TextsReadUpTo xs n end reads → ReadUpTo content TextMayGoOn (map input_as xs) (Text n) end reads
 up_to_as content xs n end reads p = record {
   before = map input_as p.before;
   name = p.name;
@@ -177,11 +177,11 @@ up_to_as content xs n end reads p = record {
   all = p.all;
 }
 
-begun_as : (content : Content) (xs : List (ℕ × List ℕ)) (reads : List Read) → passes.MayBegin xs reads → MayBegin content TextMayGoOn (map input_as xs) reads
+begun_as : (content : Content) (xs : List (ℕ × List ℕ)) (reads : List Read) → passes.TextMayBegin xs reads → MayBegin content TextMayGoOn (map input_as xs) reads
 begun_as content [] reads p = p
 begun_as content (x ∷ xs) reads p = pass_of_text (content x.1) Anywhere x.1 reads p
 
-part_as : (content : Content) (xs : List (ℕ × List ℕ)) (reads : List Read) → passes.ReadInPart xs reads → ReadInPart content TextMayGoOn (map input_as xs) reads
+part_as : (content : Content) (xs : List (ℕ × List ℕ)) (reads : List Read) → passes.TextsReadInPart xs reads → ReadInPart content TextMayGoOn (map input_as xs) reads
 part_as content xs reads p = record {
   before = map input_as p.before;
   after = map input_as p.after;
@@ -206,7 +206,7 @@ part_up_to content inputs which reads p = record {
   all = p.all;
 }
 
-found_all : (content : Content) (inputs : List Input) (w : Option code_wrong.Wrong) (reads : List Read) → ((x : code_check.No) → w ≡ Some (wrong.No x) → ⊥) → AllRead content TextMayGoOn inputs reads → ReadsFound content inputs w reads
+found_all : (content : Content) (inputs : List Input) (w : Option code_wrong.Wrong) (reads : List Read) → ((x : code_check.No) → w ≡ Some (wrong.No x) → ⊥) → InputsRead content TextMayGoOn inputs reads → ReadsFound content inputs w reads
 found_all content inputs None reads e p = p
 found_all content inputs (Some (wrong.Differ d)) reads e p = p
 found_all content inputs (Some (wrong.MovesNo x)) reads e p = p
@@ -228,7 +228,7 @@ found_one content inputs (Some (wrong.MovesNo x)) fault reads e p = absurd cc
 wrong_of : (reply : code_reply.Reply) (r : Reply) → reply_as reply ≡ r → option_map wrong_as reply.wrong ≡ r.wrong
 wrong_of reply r e = ap (λ (x : Reply). x.wrong) e
 
-replied_reads : {T : Type 0} (says : T → Reply) → NeverNo says → (content : Content) (xs : List (ℕ × List ℕ)) (r : Result T SameError) (s : Replied) (reads : List Read) → RepliesTo says r s → passes.ReadsOf xs r reads → ReadsCompared content (map input_as xs) s reads
+replied_reads : {T : Type 0} (says : T → Reply) → NeverNo says → (content : Content) (xs : List (ℕ × List ℕ)) (r : Result T SameError) (s : Replied) (reads : List Read) → RepliesTo says r s → passes.ReadsOfTexts xs r reads → ReadsCompared content (map input_as xs) s reads
 replied_reads says never content xs (Ok x) (Ok reply) reads is p =
     found_all content (map input_as xs) reply.wrong reads (never_no says never x reply.wrong (wrong_of reply (says x) is)) (all_as content xs reads p)
 replied_reads says never content xs (Ok answer) (Err o) reads is p = rw is (part_all content TextMayGoOn (map input_as xs) reads (all_as content xs reads p))
@@ -244,10 +244,10 @@ replied_reads says never content xs (Err same_error.Fault) (Err o) reads is p = 
 replied_reads says never content xs (Err same_error.NoMemory) (Ok reply) reads is p = absurd is
 replied_reads says never content xs (Err same_error.NoMemory) (Err o) reads is p = rw is (part_as content xs reads p)
 
-pub reply_reads : {T : Type 0} (says : T → Reply) → NeverNo says → (content : Content) (before now : Option (List Read)) (names : List (List ℕ)) (r : Result T SameError) (s : Replied) → RepliesTo says r s → Makes before now (passes.ReadsOf (numbered 1 names) r) → Makes before now (ReadsCompared content (texts_from 1 names) s)
+pub reply_reads : {T : Type 0} (says : T → Reply) → NeverNo says → (content : Content) (before now : Option (List Read)) (names : List (List ℕ)) (r : Result T SameError) (s : Replied) → RepliesTo says r s → Makes before now (passes.ReadsOfTexts (numbered_texts 1 names) r) → Makes before now (ReadsCompared content (texts_from 1 names) s)
 reply_reads says never content before now names r s is made =
-    makes_as before now (passes.ReadsOf (numbered 1 names) r) (ReadsCompared content (texts_from 1 names) s) made
-    (λ reads p. subst (λ inputs. ReadsCompared content inputs s reads) (texts_as 1 names) (replied_reads says never content (numbered 1 names) r s reads is p))
+    makes_as before now (passes.ReadsOfTexts (numbered_texts 1 names) r) (ReadsCompared content (texts_from 1 names) s) made
+    (λ reads p. subst (λ inputs. ReadsCompared content inputs s reads) (texts_as 1 names) (replied_reads says never content (numbered_texts 1 names) r s reads is p))
 
 -- an answer, changes and a verdict on changes say no no to a text
 pub answers_never : NeverNo answer_says

@@ -5,10 +5,10 @@ use Rattle.table_model.specs.Address.{Address}
 use Rattle.table_model.specs.Changes.{Change}
 use Rattle.cert_model.specs.Rows.{CertRow}
 use Rattle.kept_model.specs.Feed.{at_event}
-use Rattle.printed_model.specs.Rows.{PrintedRow, moves_row}
-use Rattle.printed_model.specs.Numbered.{of_cert}
+use Rattle.printed_text.specs.Rows.{PrintedRow, moves_row}
+use Rattle.printed_text.specs.Numbered.{of_cert}
 use Rattle.fib_report.specs.Rows.{of_change, of_moves}
-use Rattle.fib_report.specs.Sections.{Writes, hops_in, text_in, writes_more}
+use Rattle.fib_report.specs.Sections.{WritesRows, text_hops, text_in, writes_more}
 use Rattle.fib_report.specs.declared.run_text.RunText.{RunText}
 use Rattle.router_moves.specs.Due.{ShortestMoves}
 use Rattle.fib_due.specs.RouterRows.{router_rows, router_text}
@@ -22,19 +22,19 @@ event_both : (cs ds : List Change) → at_event 1 (cs ++ ds) ≡ at_event 1 cs +
 event_both cs ds = map-append (λ c. (1, c)) cs ds
 
 -- changes of both families, their number, and the rows of both
-module _ (hops : List Address) (a b : List Change) (c d : List CertRow) (n : ℕ) (t0 t1 t2 t3 t4 t5 : RunText) (same : hops_in t0 ≡ hops) (count : n ≡ length (a ++ b))
-    (first : Writes t0 t1 (map (λ x. of_change (hops_in t0) (1, x)) a))
-    (second : Writes t1 t2 (map (λ x. of_change (hops_in t1) (1, x)) b))
-    (many : Writes t2 t3 (map of_moves ((1, n) ∷ [])))
-    (low : Writes t3 t4 (map (of_cert (hops_in t3)) c))
-    (high : Writes t4 t5 (map (of_cert (hops_in t4)) d)) where
-  h1 : hops_in t1 ≡ hops
+module _ (hops : List Address) (a b : List Change) (c d : List CertRow) (n : ℕ) (t0 t1 t2 t3 t4 t5 : RunText) (same : text_hops t0 ≡ hops) (count : n ≡ length (a ++ b))
+    (first : WritesRows t0 t1 (map (λ x. of_change (text_hops t0) (1, x)) a))
+    (second : WritesRows t1 t2 (map (λ x. of_change (text_hops t1) (1, x)) b))
+    (many : WritesRows t2 t3 (map of_moves ((1, n) ∷ [])))
+    (low : WritesRows t3 t4 (map (of_cert (text_hops t3)) c))
+    (high : WritesRows t4 t5 (map (of_cert (text_hops t4)) d)) where
+  h1 : text_hops t1 ≡ hops
   h1 = first.hops ∙ same
 
-  h3 : hops_in t3 ≡ hops
+  h3 : text_hops t3 ≡ hops
   h3 = many.hops ∙ (second.hops ∙ h1)
 
-  h4 : hops_in t4 ≡ hops
+  h4 : text_hops t4 ≡ hops
   h4 = low.hops ∙ h3
 
   abbrev A : List PrintedRow
@@ -52,14 +52,14 @@ module _ (hops : List Address) (a b : List Change) (c d : List CertRow) (n : ℕ
   abbrev D : List PrintedRow
   D = map (of_cert hops) d
 
-  written : Writes t0 t5 (A ++ B ++ N ++ C ++ D)
+  written : WritesRows t0 t5 (A ++ B ++ N ++ C ++ D)
   written =
-      let x = subst (Writes t0 t1) (of_event hops a) (subst (λ h. Writes t0 t1 (map (λ x. of_change h (1, x)) a)) same first) in
-      let y = subst (Writes t1 t2) (of_event hops b) (subst (λ h. Writes t1 t2 (map (λ x. of_change h (1, x)) b)) h1 second) in
+      let x = subst (WritesRows t0 t1) (of_event hops a) (subst (λ h. WritesRows t0 t1 (map (λ x. of_change h (1, x)) a)) same first) in
+      let y = subst (WritesRows t1 t2) (of_event hops b) (subst (λ h. WritesRows t1 t2 (map (λ x. of_change h (1, x)) b)) h1 second) in
       let ab = writes_more t0 t1 t2 A B x y in
       let abn = writes_more t0 t2 t3 (A ++ B) N ab many in
-      let abnc = writes_more t0 t3 t4 (A ++ B ++ N) C abn (subst (λ h. Writes t3 t4 (map (of_cert h) c)) h3 low) in
-      writes_more t0 t4 t5 (A ++ B ++ N ++ C) D abnc (subst (λ h. Writes t4 t5 (map (of_cert h) d)) h4 high)
+      let abnc = writes_more t0 t3 t4 (A ++ B ++ N) C abn (subst (λ h. WritesRows t3 t4 (map (of_cert h) c)) h3 low) in
+      writes_more t0 t4 t5 (A ++ B ++ N ++ C) D abnc (subst (λ h. WritesRows t4 t5 (map (of_cert h) d)) h4 high)
 
   abbrev all : ShortestMoves
   all = record { changes = a ++ b; rows = c ++ d; hops = hops }
@@ -74,4 +74,4 @@ module _ (hops : List Address) (a b : List Change) (c d : List CertRow) (n : ℕ
 
   -- begun with no row
   pub router_written : text_in t0 ≡ [] → text_in t5 ≡ router_text all
-  router_written empty = (subst (Writes t0 t5) rows_are written).text ∙ ap (λ text. text ++ router_text all) empty
+  router_written empty = (subst (WritesRows t0 t5) rows_are written).text ∙ ap (λ text. text ++ router_text all) empty

@@ -6,8 +6,8 @@ use Rattle.std.specs.declared.vec.Vec.{Vec}
 use Rattle.octet_fields.specs.Field.{◌>>=◌}
 use Rattle.table_model.specs.Address.{Prefix}
 use Rattle.route_model.specs.Events.{Event}
-use Rattle.route_model.specs.Choice.{Candidates, Offer, Place}
-use Rattle.saved_model.specs.Saved.{long_one, most_peers, peers_with_candidates, saved}
+use Rattle.route_model.specs.Choice.{Candidates, PathAttrs, Place}
+use Rattle.mrt_write.specs.Saved.{long_one, most_peers, peers_with_candidates, saved}
 use Rattle.mrt_write.specs.Answers.{WriterAnswers}
 use Rattle.mrt_write.specs.Reads.{after_events}
 use Rattle.mrt_write.specs.declared.write.WriteError.{WriteError}
@@ -16,9 +16,9 @@ use Rattle.fib_io.specs.Causes.{Rose}
 use Rattle.fib_io.specs.Reads.{AtEnd, Makes, PassEnd, PassInTime, Read}
 use Rattle.fib_io.proofs.Passing.{makes_as}
 use Rattle.fib_io.specs.Reads as io
-use Rattle.whole_input.specs.Whole.{HasEvents, IsRefused, MayGoOn, end_by}
-use Rattle.whole_input.specs.declared.whole.WholeError.{WholeError}
-use Rattle.whole_input.specs.declared.whole.WholeError.TheVariants as whole
+use Rattle.mrt_read.specs.Whole.{HasEvents, IsInputRefused, MayGoOn, pass_end_by}
+use Rattle.mrt_read.specs.declared.whole.WholeError.{WholeError}
+use Rattle.mrt_read.specs.declared.whole.WholeError.TheVariants as whole
 use Rattle.fib_save.specs.Brings.{Brings, HasNamed}
 use Rattle.fib_save.specs.Restores.{Restores}
 use Rattle.fib_save.specs.Saves.{FaultOf, SaveAnswers, SaveFaults, SaveReads}
@@ -36,7 +36,7 @@ use Rattle.fib_due.specs.Due.{Output, Saved, later_at, reply_of, said_at, saved_
 use Rattle.fib_due.specs.Ends.{OneRose, ReadsBy, reads_saved}
 use Rattle.fib_due.specs.InTime.{SaveMayGoOn}
 use Rattle.fib_due.specs.Owned.{IsOf, StopsAt}
-use Rattle.fib_due.specs.Passes.{AllRead, Content, Input, ReadUpTo, ReadsTo, StopsReading, input_for, save_inputs}
+use Rattle.fib_due.specs.Passes.{InputsRead, Content, Input, ReadUpTo, ReadsTo, StopsReading, input_for, save_inputs}
 use Rattle.fib_due.specs.Proves.{IfSaved, IsCheckpoint}
 use Rattle.fib_texts.specs.Saving.{HoldsCheckpoint, refusal_of_save}
 use Rattle.fib_due.specs.Stepping.{events_of, refusal_by}
@@ -71,10 +71,10 @@ all_said content named held b =
 few_written : (said : List Event) (held : Candidates) → length (peers_with_candidates held) ≤ most_peers → saved_with said held ≡ unless_long said (long_one held)
 few_written said held few = ap (λ b. cond b (Err (Refused (PeersFull (length (peers_with_candidates held))))) (unless_long said (long_one held))) (le-ltb most_peers (length (peers_with_candidates held)) few)
 
-none_long : (said : List Event) (c : Option (Place × Offer)) → c ≡ None → unless_long said c ≡ Ok (Saved said)
+none_long : (said : List Event) (c : Option (Place × PathAttrs)) → c ≡ None → unless_long said c ≡ Ok (Saved said)
 none_long said c e = ap (unless_long said) e
 
-one_long : (said : List Event) (o : Option (Place × Offer)) (c : Place × Offer) → o ≡ Some c → unless_long said o ≡ Err (LongPath c.0.prefix c.1.path)
+one_long : (said : List Event) (o : Option (Place × PathAttrs)) (c : Place × PathAttrs) → o ≡ Some c → unless_long said o ≡ Err (LongPath c.0.prefix c.1.path)
 one_long said o c e = ap (unless_long said) e
 
 many_peers : (said : List Event) (held : Candidates) → most_peers < length (peers_with_candidates held) → saved_with said held ≡ Err (Refused (PeersFull (length (peers_with_candidates held))))
@@ -131,15 +131,15 @@ write_fails said held write.NoMemory e w = tt
 abbrev Answers : Content → NamedSave → SaveError → Type 0
 Answers content named error = SaveAnswers {A = ℕ} content named.dump named.updates (Err error)
 
-dump_fails : (content : Content) (named : NamedSave) (error : WholeError) → IfSome (content named.dump) (IsRefused error) → FailsDue (refusal_by mrt.Dump error) (said_at content named)
+dump_fails : (content : Content) (named : NamedSave) (error : WholeError) → IfSome (content named.dump) (IsInputRefused error) → FailsDue (refusal_by mrt.Dump error) (said_at content named)
 unfolding said_at
 dump_fails content named error h = fails_first (refusal_by mrt.Dump error) (events_of mrt.Dump content named.dump) (λ load. later_at content named.updates >>= λ later. Ok (load ++ later)) (all_fails mrt.Dump content named.dump error h)
 
-later_fails : (content : Content) (updates : Option (List ℕ)) (name : List ℕ) (error : WholeError) → updates ≡ Some name → IfSome (content name) (IsRefused error) → FailsDue (refusal_by mrt.Updates error) (later_at content updates)
+later_fails : (content : Content) (updates : Option (List ℕ)) (name : List ℕ) (error : WholeError) → updates ≡ Some name → IfSome (content name) (IsInputRefused error) → FailsDue (refusal_by mrt.Updates error) (later_at content updates)
 unfolding later_at
 later_fails content updates name error e h = subst (λ u. FailsDue (refusal_by mrt.Updates error) (later_at content u)) (sym e) (all_fails mrt.Updates content name error h)
 
-updates_fail : (content : Content) (named : NamedSave) (load : List Event) (name : List ℕ) (error : WholeError) → IfSome (content named.dump) (HasEvents load) → named.updates ≡ Some name → IfSome (content name) (IsRefused error) → FailsDue (refusal_by mrt.Updates error) (said_at content named)
+updates_fail : (content : Content) (named : NamedSave) (load : List Event) (name : List ℕ) (error : WholeError) → IfSome (content named.dump) (HasEvents load) → named.updates ≡ Some name → IfSome (content name) (IsInputRefused error) → FailsDue (refusal_by mrt.Updates error) (said_at content named)
 unfolding said_at
 updates_fail content named load name error h e r =
     fails_then (refusal_by mrt.Updates error) (events_of mrt.Dump content named.dump) (λ load. later_at content named.updates >>= λ later. Ok (load ++ later)) load (all_due mrt.Dump content named.dump load h)
@@ -209,18 +209,18 @@ none_cause content named before now (save_error.Unwritten write.NoMemory) h c = 
 
 -- ---- reads
 
-later_all : (content : Content) (updates : Option (List ℕ)) (reads : List Read) → saves.AllRead content (option_to_list updates) reads → AllRead content SaveMayGoOn (input_for Updates updates) reads
+later_all : (content : Content) (updates : Option (List ℕ)) (reads : List Read) → saves.AllRead content (option_to_list updates) reads → InputsRead content SaveMayGoOn (input_for Updates updates) reads
 later_all content None reads p = p
 later_all content (Some name) reads p = p
 
-pub all_saved_reads : (content : Content) (named : NamedSave) (reads : List Read) → saves.AllRead content (saves.input_names named.dump named.updates) reads → AllRead content SaveMayGoOn (save_inputs named) reads
+pub all_saved_reads : (content : Content) (named : NamedSave) (reads : List Read) → saves.AllRead content (saves.input_names named.dump named.updates) reads → InputsRead content SaveMayGoOn (save_inputs named) reads
 all_saved_reads content named reads p = (p.0, p.1, p.2, p.3, later_all content named.updates p.1 p.4)
 
 -- the dump alone, up to its refusal
 up_to_dump : (content : Content) (named : NamedSave) (end : PassEnd) (reads : List Read) → PassInTime (content named.dump) MayGoOn end named.dump reads → ReadUpTo content SaveMayGoOn (save_inputs named) Dump end reads
 up_to_dump content named end reads p = record { before = []; name = named.dump; after = input_for Updates named.updates; order = refl; first = []; whole = refl; last = reads; pass = p; all = refl }
 
-dump_stops : (content : Content) (named : NamedSave) (error : WholeError) (reads : List Read) → PassInTime (content named.dump) MayGoOn (end_by error) named.dump reads → StopsReading content SaveMayGoOn (save_inputs named) (refusal_by mrt.Dump error) reads
+dump_stops : (content : Content) (named : NamedSave) (error : WholeError) (reads : List Read) → PassInTime (content named.dump) MayGoOn (pass_end_by error) named.dump reads → StopsReading content SaveMayGoOn (save_inputs named) (refusal_by mrt.Dump error) reads
 dump_stops content named (whole.Malformed malformed) reads p = up_to_dump content named io.Anywhere reads p
 dump_stops content named whole.Fault reads p = (Dump, up_to_dump content named io.AtFault reads p)
 dump_stops content named whole.TooLarge reads p = up_to_dump content named io.PastMost reads p
@@ -244,7 +244,7 @@ up_to_updates content named name end first last reads e all p q = record {
   all = all;
 }
 
-updates_stop : (content : Content) (named : NamedSave) (error : WholeError) (reads : List Read) → saves.UpdatesStop content named.dump named.updates (end_by error) reads → StopsReading content SaveMayGoOn (save_inputs named) (refusal_by mrt.Updates error) reads
+updates_stop : (content : Content) (named : NamedSave) (error : WholeError) (reads : List Read) → saves.UpdatesStop content named.dump named.updates (pass_end_by error) reads → StopsReading content SaveMayGoOn (save_inputs named) (refusal_by mrt.Updates error) reads
 updates_stop content named (whole.Malformed malformed) reads (first, last, all, p, name, e, q) = up_to_updates content named name io.Anywhere first last reads e all p q
 updates_stop content named whole.Fault reads (first, last, all, p, name, e, q) = (Updates, up_to_updates content named name io.AtFault first last reads e all p q)
 updates_stop content named whole.TooLarge reads (first, last, all, p, name, e, q) = up_to_updates content named name io.PastMost first last reads e all p q
@@ -269,8 +269,8 @@ none_read content named (save_error.Unwritten write.NoMemory) reads p = part_all
 pub none_reads : (content : Content) (named : NamedSave) (before now : Option (List Read)) (error : SaveError) → Makes before now (SaveReads {T = Vec ℕ ℕ} content named.dump named.updates (Err error)) → Makes before now (ReadsTo content SaveMayGoOn (save_inputs named) (refusal_of_save error))
 none_reads content named before now error made = makes_as before now (SaveReads {T = Vec ℕ ℕ} content named.dump named.updates (Err error)) (ReadsTo content SaveMayGoOn (save_inputs named) (refusal_of_save error)) made (none_read content named error)
 
-pub saved_reads : (content : Content) (named : NamedSave) (before now : Option (List Read)) → Makes before now (saves.AllRead content (saves.input_names named.dump named.updates)) → Makes before now (AllRead content SaveMayGoOn (save_inputs named))
-saved_reads content named before now made = makes_as before now (saves.AllRead content (saves.input_names named.dump named.updates)) (AllRead content SaveMayGoOn (save_inputs named)) made (all_saved_reads content named)
+pub saved_reads : (content : Content) (named : NamedSave) (before now : Option (List Read)) → Makes before now (saves.AllRead content (saves.input_names named.dump named.updates)) → Makes before now (InputsRead content SaveMayGoOn (save_inputs named))
+saved_reads content named before now made = makes_as before now (saves.AllRead content (saves.input_names named.dump named.updates)) (InputsRead content SaveMayGoOn (save_inputs named)) made (all_saved_reads content named)
 
 -- ---- as a reply
 

@@ -9,7 +9,7 @@ use Rattle.fib_same.specs.declared.error.SameError.TheVariants as same_error
 use Rattle.router_moves.specs.Due as router
 use Rattle.router_moves.specs.Checked as claims
 use Rattle.router_moves.specs.Judged.{verdict_as}
-use Rattle.router_moves.specs.Views.{moves_as}
+use Rattle.router_moves.specs.Views.{shortest_as}
 use Rattle.router_moves.specs.declared.answer.RouterMoves.{RouterMoves}
 use Rattle.router_moves.specs.declared.verdict.MovesVerdict.{MovesVerdict}
 use Rattle.fib_due.specs.MovesChecks.{claim_text}
@@ -26,23 +26,23 @@ abbrev pub answer_reply : Option TextDifference → Reply
 answer_reply answer = record { text = answer_text answer; wrong = option_map Differs answer }
 
 -- What is replied where texts aren't read: the verdict on a text in which a prefix stands twice, or the outcome of a refusal. Memory may run out while a row is made.
-abbrev pub Refuses : SameError → Result code_reply.Reply Outcome → Type 0
-Refuses (same_error.Twice n p) (Ok reply) = reply_as reply ≡ reply_of (Repeats (prefix_as p))
-Refuses (same_error.Twice n p) (Err o) = o ≡ NoMemory
-Refuses (same_error.BadLine n line why) (Ok reply) = ⊥
-Refuses (same_error.BadLine n line why) (Err o) = o ≡ BadLine (Text n) line why
-Refuses (same_error.TooLarge n) (Ok reply) = ⊥
-Refuses (same_error.TooLarge n) (Err o) = o ≡ TooLarge (Text n)
-Refuses same_error.Fault (Ok reply) = ⊥
-Refuses same_error.Fault (Err o) = o ≡ ReadFault
-Refuses same_error.NoMemory (Ok reply) = ⊥
-Refuses same_error.NoMemory (Err o) = o ≡ NoMemory
+abbrev pub RepliesRefusal : SameError → Result code_reply.Reply Outcome → Type 0
+RepliesRefusal (same_error.Twice n p) (Ok reply) = reply_as reply ≡ reply_of (Repeats (prefix_as p))
+RepliesRefusal (same_error.Twice n p) (Err o) = o ≡ NoMemory
+RepliesRefusal (same_error.BadLine n line why) (Ok reply) = ⊥
+RepliesRefusal (same_error.BadLine n line why) (Err o) = o ≡ BadLine (Text n) line why
+RepliesRefusal (same_error.TooLarge n) (Ok reply) = ⊥
+RepliesRefusal (same_error.TooLarge n) (Err o) = o ≡ TooLarge (Text n)
+RepliesRefusal same_error.Fault (Ok reply) = ⊥
+RepliesRefusal same_error.Fault (Err o) = o ≡ ReadFault
+RepliesRefusal same_error.NoMemory (Ok reply) = ⊥
+RepliesRefusal same_error.NoMemory (Err o) = o ≡ NoMemory
 
 -- What is replied to what was found in texts: what says it, or why they aren't read. Memory may run out while rows are made.
 abbrev pub RepliesTo : {T : Type 0} → (T → Reply) → Result T SameError → Result code_reply.Reply Outcome → Type 0
 RepliesTo says (Ok x) (Ok reply) = reply_as reply ≡ says x
 RepliesTo says (Ok x) (Err o) = o ≡ NoMemory
-RepliesTo says (Err error) result = Refuses error result
+RepliesTo says (Err error) result = RepliesRefusal error result
 
 -- what says the answer of a comparison
 abbrev pub answer_says : Option Difference → Reply
@@ -53,7 +53,7 @@ abbrev pub moves_reply : router.ShortestMoves → Reply
 moves_reply m = record { text = router_text m; wrong = None }
 
 abbrev pub moves_say : RouterMoves → Reply
-moves_say m = moves_reply (moves_as m)
+moves_say m = moves_reply (shortest_as m)
 
 -- the reply to the check of what it was told to change
 abbrev pub verdict_reply : claims.Verdict → Reply

@@ -1,10 +1,10 @@
 -- What a check of a text gives.
 use Rattle.std.specs.Prelude.{◌≡◌, Result, Ok, Err}
-use Rattle.printed_model.specs.Texts.{BadLine}
-use Rattle.printed_model.specs.Used.{Used}
-use Rattle.cost_cert.specs.Printed.{bad_as}
-use Rattle.cost_cert.specs.declared.error.PrintedError.{PrintedError}
-use Rattle.cost_cert.specs.declared.error.PrintedError.TheVariants as printed
+use Rattle.printed_text.specs.Texts.{BadLine}
+use Rattle.printed_text.specs.Used.{Used}
+use Rattle.printed_text.specs.Printed.{bad_as}
+use Rattle.printed_text.specs.declared.error.PrintedError.{PrintedError}
+use Rattle.printed_text.specs.declared.error.PrintedError.TheVariants as printed
 use Rattle.fib_due.specs.declared.reply.Reply as code_reply
 use Rattle.fib_due.specs.Due.{Checked, reply_of}
 use Rattle.fib_due.specs.Views.{reply_as}

@@ -1,7 +1,7 @@
 -- The reply to a checkpoint.
 use Rattle.std.specs.Prelude.{◌≡◌, ℕ, List, [], Option, None, Ok}
 use Rattle.route_model.specs.Events.{Event}
-use Rattle.saved_model.specs.Saved.{saved}
+use Rattle.mrt_write.specs.Saved.{saved}
 use Rattle.mrt_write.specs.declared.write.WriteError.TheVariants as write
 use Rattle.mrt_write.specs.Reads.{after_events}
 use Rattle.fib_save.specs.Restores.{Restores}

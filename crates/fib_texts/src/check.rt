@@ -2,11 +2,11 @@
 
 ghost use Rattle.std.specs.Prelude.{◌≡◌, ◌∷◌, [], codes, decimal, option_map, IfErr, IfOk, IfSome, Some};
 ghost use Rattle.cert_check.specs.Views.{no_as};
-ghost use Rattle.cost_cert.specs.Printed.{printed_as};
+ghost use Rattle.printed_text.specs.Printed.{printed_as};
 ghost use Rattle.fib_addr.specs.Views.{addr_as, prefix_as};
 ghost use Rattle.fib_addr.specs.Text.{address_text, prefix_text};
-ghost use Rattle.printed_model.specs.Rows.{family_name, line};
-ghost use Rattle.printed_model.specs.Used.{printed_in};
+ghost use Rattle.printed_text.specs.Rows.{family_name, line};
+ghost use Rattle.printed_text.specs.Used.{printed_in};
 ghost use Rattle.fib_due.specs.Checks.{verdict_hop, no_fields, verdict_of, verdict_text};
 ghost use Rattle.fib_due.specs.Due.{Checked, Refuted, checked, reply_of, used_at, with_reply};
 ghost use Rattle.fib_due.specs.Ends.{ReadsName};
@@ -20,12 +20,12 @@ ghost use Rattle.fib_texts.specs.Reads.{IsReply};
 ghost use Rattle.fib_due.specs.Views.{reply_as, wrong_as};
 
 use cert_check::{CheckError, No, check};
-use cost_cert::{Printed, PrintedError, read_printed};
 use fib_due::{Outcome, Reply, Which, Wrong, octets_of};
 use fib_io::Inputs;
 use fib_prefix::{Addr, Family, Hop, HopTable, MOST_TEXT, Prefix, addr_text, prefix_text};
 use fib_report::{family_field, hop_field, row_text};
 use itoa::Buffer;
+use printed_text::{Printed, PrintedError, read_printed};
 use std::alloc::{AllocError, Global};
 
 /// `no,twice,PREFIX`.

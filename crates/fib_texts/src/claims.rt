@@ -4,7 +4,7 @@ ghost use Rattle.std.specs.Prelude.{◌≡◌, ◌∷◌, [], codes, decimal, op
 ghost use Rattle.fib_io.specs.Reads.{Makes};
 ghost use Rattle.fib_words.specs.Commands.{CheckMoves as AsksCheck, check_moves_as};
 ghost use Rattle.moves_check.specs.Views.{no_moves_as};
-ghost use Rattle.printed_model.specs.Rows.{family_name, line};
+ghost use Rattle.printed_text.specs.Rows.{family_name, line};
 ghost use Rattle.fib_texts.specs.Comparing.{RepliesTo, verdict_reply, verdict_says};
 ghost use Rattle.fib_due.specs.Due.{claims_at, with_reply};
 ghost use Rattle.fib_due.specs.Ends.{ReadsNames};
@@ -16,7 +16,7 @@ ghost use Rattle.fib_due.specs.Untold.{ClaimedOfSome};
 ghost use Rattle.fib_due.specs.Views.{reply_as};
 ghost use Rattle.router_moves.specs.Checked.{names_claimed};
 ghost use Rattle.router_moves.specs.Judged.{verdict_as};
-ghost use Rattle.router_moves.specs.Judged.{wrong_as as wrong_moves_as};
+ghost use Rattle.router_moves.specs.Judged.{wrong_moves_as};
 
 use crate::check::{not_same_row, twice_row};
 use crate::same::reply_to_refused;

@@ -2,7 +2,7 @@
 
 ghost use Rattle.std.specs.Prelude.{◌≡◌, ◌∷◌, [], IfErr, IfOk, IfSome};
 ghost use Rattle.fib_io.specs.Reads.{Makes};
-ghost use Rattle.fib_words.specs.Commands.{Moves as AsksMoves, moves_as as named_moves};
+ghost use Rattle.fib_words.specs.Commands.{Moves as AsksMoves, named_moves};
 ghost use Rattle.fib_texts.specs.Comparing.{RepliesTo, moves_say};
 ghost use Rattle.fib_due.specs.Due.{moved_at, with_reply};
 ghost use Rattle.fib_due.specs.Ends.{ReadsNames};
@@ -13,7 +13,7 @@ ghost use Rattle.fib_due.specs.Stops.{GivesDue};
 ghost use Rattle.fib_due.specs.Untold.{MovedOfSome};
 ghost use Rattle.fib_due.specs.Views.{reply_as};
 ghost use Rattle.router_moves.specs.Due.{names_asked};
-ghost use Rattle.router_moves.specs.Views.{moves_as};
+ghost use Rattle.router_moves.specs.Views.{shortest_as};
 
 use crate::same::reply_to_refused;
 use fib_due::{Outcome, Reply};
@@ -29,7 +29,7 @@ const EVENT: u64 = 1;
 
 /// The rows: the changes, how many there are, and those that prove that no fewer would do.
 fn rows_of(alloc: Global, moves: &RouterMoves) -> Result<Vec<u8>, AllocError>
-    ensures { IfOk result (λ text. text.items ≡ router_text (moves_as moves.now)) }
+    ensures { IfOk result (λ text. text.items ≡ router_text (shortest_as moves.now)) }
 {
     let mut text = RunText::new(alloc, &moves.hops);
     text.event(EVENT, &moves.v4.changes)?;

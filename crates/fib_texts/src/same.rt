@@ -5,7 +5,7 @@ ghost use Rattle.fib_addr.specs.Views.{prefix_as};
 ghost use Rattle.fib_io.specs.Reads.{Makes};
 ghost use Rattle.fib_same.specs.Views.{difference_as};
 ghost use Rattle.fib_words.specs.Commands.{Same, same_as};
-ghost use Rattle.fib_texts.specs.Comparing.{Refuses, RepliesTo, answer_reply, answer_says};
+ghost use Rattle.fib_texts.specs.Comparing.{RepliesRefusal, RepliesTo, answer_reply, answer_says};
 ghost use Rattle.fib_due.specs.Due.{Repeats, answer_text, compared_at, reply_of, with_reply};
 ghost use Rattle.fib_due.specs.Ends.{ReadsNames};
 ghost use Rattle.fib_same.specs.Gives.{names_at};
@@ -78,7 +78,7 @@ fn reply_to_twice(alloc: Global, prefix: Prefix) -> Result<Reply, AllocError>
 
 /// The reply where texts aren't read: which prefix stands twice in one, or why one is refused.
 pub(crate) fn reply_to_refused(alloc: Global, error: SameError) -> Result<Reply, Outcome>
-    ensures { Refuses error result }
+    ensures { RepliesRefusal error result }
 {
     match error {
         SameError::Twice { prefix, .. } => {

@@ -17,7 +17,7 @@ use Rattle.clap.specs.declared.parser.matches.SubCommand.{SubCommand}
 use Rattle.clap.proofs.WalkLemmas.{first_value-rows, raw_values-rows}
 use Rattle.clap.proofs.OnLiterals.{clap_on_literals}
 use Rattle.fib_addr.specs.Text.{number_below}
-use Rattle.printed_model.specs.declared.kind.Kind.{Kind}
+use Rattle.printed_text.specs.declared.kind.Kind.{Kind}
 use Rattle.fib_words.specs.declared.WordsError.{WordsError}
 use Rattle.fib_words.specs.declared.WordsError.TheVariants.{Usage, NoMemory}
 use Rattle.fib_words.specs.Commands.{Asked, Named, NamedSame, NamedSizes, HasApp, fib_app, takes, is_empty, is_on, Run, Check, Steps, asked_in, named_by, named_with, number_or, made_by, made_with, Make, Same, Save, same_by, same_with, save_by, save_with, moves_asked, moves_by, moves_with, from_one, kind_or, sizes_by, sizes_with, steps_by, steps_with, command_of, IsCommand}

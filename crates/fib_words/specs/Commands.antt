@@ -7,8 +7,8 @@ use Rattle.clap.specs.declared.builder.Command.TheViews.{out-Command}
 use Rattle.clap.specs.Words.{App, Row, Rule, Text, all_of, app_of, fault_of, first_of, new_app, new_rule, subcommand_of, with_rule, with_subcommand}
 use Rattle.clap.specs.declared.builder.action.ArgAction.TheVariants.{Append, SetTrue}
 use Rattle.fib_addr.specs.Text.{number_below}
-use Rattle.printed_model.specs.declared.kind.Kind.{Kind}
-use Rattle.printed_model.specs.declared.kind.Kind.TheVariants.{Route, Table, Least}
+use Rattle.printed_text.specs.declared.kind.Kind.{Kind}
+use Rattle.printed_text.specs.declared.kind.Kind.TheVariants.{Route, Table, Least}
 use Rattle.fib_words.specs.declared.RunWords.{RunWords}
 use Rattle.fib_words.specs.declared.SameWords.{SameWords}
 use Rattle.fib_words.specs.declared.SaveWords.{SaveWords}
@@ -299,8 +299,8 @@ command_of words = if takes words then option_and_then asked_in (subcommand_of f
 abbrev pub named_as : RunWords → Named
 named_as run = record { dump = run.dump.now; updates = option_map (λ name. name.now) run.updates; asks = option_map (λ name. name.now) run.asks; vrps = option_map (λ name. name.now) run.vrps; every = run.every; fewest = run.fewest; steady = run.steady; direct = run.direct; nodes = run.nodes; leaves = run.leaves }
 
-abbrev pub sizes_as : SizesWords → NamedSizes
-sizes_as sizes = record { direct = sizes.direct; nodes = sizes.nodes; leaves = sizes.leaves }
+abbrev pub named_sizes_as : SizesWords → NamedSizes
+named_sizes_as sizes = record { direct = sizes.direct; nodes = sizes.nodes; leaves = sizes.leaves }
 
 abbrev pub steps_as : StepsWords → NamedSteps
 steps_as steps = record { dump = steps.dump.now; updates = steps.updates.now; script = steps.script.now; direct = steps.direct; nodes = steps.nodes; leaves = steps.leaves }
@@ -311,8 +311,8 @@ same_as same = record { first = same.first.now; rest = map (λ name. name.now) s
 abbrev pub save_as : SaveWords → NamedSave
 save_as save = record { dump = save.dump.now; updates = option_map (λ name. name.now) save.updates }
 
-abbrev pub moves_as : MovesWords → NamedMoves
-moves_as moves = record { router = moves.router.now; printed = moves.printed.now; steady = moves.steady }
+abbrev pub named_moves : MovesWords → NamedMoves
+named_moves moves = record { router = moves.router.now; printed = moves.printed.now; steady = moves.steady }
 
 abbrev pub check_moves_as : CheckMovesWords → NamedCheckMoves
 check_moves_as check = record { router = check.router.now; printed = check.printed.now; moves = check.moves.now }
@@ -324,7 +324,7 @@ asked_as (code.Make made) = Make made.routes made.seed
 asked_as (code.Steps steps) = Steps (steps_as steps)
 asked_as (code.Same same) = Same (same_as same)
 asked_as (code.Save save) = Save (save_as save)
-asked_as (code.Moves moves) = Moves (moves_as moves)
+asked_as (code.Moves moves) = Moves (named_moves moves)
 asked_as (code.CheckMoves check) = CheckMoves (check_moves_as check)
 
 -- the sizes are no greater than they may be
@@ -332,15 +332,15 @@ abbrev pub AreSizes : SizesWords → Type 0
 AreSizes sizes = (sizes.direct ≤ 18) × (sizes.nodes ≤ 24) × (sizes.leaves ≤ 26)
 
 -- the numbers are no greater than they may be
-abbrev pub IsWithin : CommandWords → Type 0
-IsWithin (code.Run run) = (run.direct ≤ 18) × (run.nodes ≤ 24) × (run.leaves ≤ 26)
-IsWithin (code.Check printed) = Unit {0}
-IsWithin (code.Make made) = (1 ≤ made.routes) × (made.routes ≤ 200000)
-IsWithin (code.Steps steps) = (steps.direct ≤ 18) × (steps.nodes ≤ 24) × (steps.leaves ≤ 26)
-IsWithin (code.Same same) = Unit {0}
-IsWithin (code.Save save) = Unit {0}
-IsWithin (code.Moves moves) = Unit {0}
-IsWithin (code.CheckMoves check) = Unit {0}
+abbrev pub AreWithinLimits : CommandWords → Type 0
+AreWithinLimits (code.Run run) = (run.direct ≤ 18) × (run.nodes ≤ 24) × (run.leaves ≤ 26)
+AreWithinLimits (code.Check printed) = Unit {0}
+AreWithinLimits (code.Make made) = (1 ≤ made.routes) × (made.routes ≤ 200000)
+AreWithinLimits (code.Steps steps) = (steps.direct ≤ 18) × (steps.nodes ≤ 24) × (steps.leaves ≤ 26)
+AreWithinLimits (code.Same same) = Unit {0}
+AreWithinLimits (code.Save save) = Unit {0}
+AreWithinLimits (code.Moves moves) = Unit {0}
+AreWithinLimits (code.CheckMoves check) = Unit {0}
 
 -- what a reading of words returned is what the words ask for, unless memory ran out
 abbrev pub IsCommand : Result CommandWords WordsError → Option Asked → Type 0

@@ -9,14 +9,14 @@ ghost use Rattle.std.specs.Option.{option_and_then};
 ghost use Rattle.std.specs.String.{string_bytes};
 ghost use Rattle.clap.specs.Words.{app_of, found_of, rows_of, subcommand_name_of, subcommand_rows_of, with_rule, with_subcommand};
 ghost use Rattle.clap.specs.Values.{kind_of};
-ghost use Rattle.fib_words.specs.Commands.{AreSizes, asked_as, asked_in, bare_app, changing_app, check_app, command_of, due_option_rule, fib_app, flag_rule, from_one, HasApp, IsCommand, IsLocal, IsWithin, is_on, kind_or, made_by, make_app, moves_app, moves_asked, moves_by, named_as, named_by, number_or, option_rule, run_app, same_app, same_as, same_by, save_app, save_as, save_by, several_rule, sized_app, sizes_as, sizes_by, spare_rule, steps_app, steps_as, steps_by, word_rule};
+ghost use Rattle.fib_words.specs.Commands.{AreSizes, asked_as, asked_in, bare_app, changing_app, check_app, command_of, due_option_rule, fib_app, flag_rule, from_one, HasApp, IsCommand, IsLocal, AreWithinLimits, is_on, kind_or, made_by, make_app, moves_app, moves_asked, moves_by, named_as, named_by, number_or, option_rule, run_app, same_app, same_as, same_by, save_app, save_as, save_by, several_rule, sized_app, named_sizes_as, sizes_by, spare_rule, steps_app, steps_as, steps_by, word_rule};
 ghost use Rattle.fib_addr.specs.Text.{number_below};
 ghost use Rattle.fib_words.specs.declared.WordsError.TheVariants.{NoMemory};
 
 use clap::error::ErrorKind;
 use clap::{Arg, ArgAction, ArgMatches, Command, Error};
 use fib_addr::read_number;
-use printed_model::Kind;
+use printed_text::Kind;
 use std::alloc::{AllocError, Global};
 
 /// A run, as the words ask for it.
@@ -410,7 +410,7 @@ fn size_of(word: Option<&str>, usual: u8, most: u8) -> Option<u8>
 
 /// The sizes of a trie that the matches name.
 fn sizes_of(matches: &ArgMatches<'_>) -> Option<SizesWords>
-    ensures same { option_map sizes_as result ≡ sizes_by (rows_of (found_of matches.now)) }
+    ensures same { option_map named_sizes_as result ≡ sizes_by (rows_of (found_of matches.now)) }
     ensures within { IfSome result AreSizes }
 {
     let direct = size_of(matches.get_str("direct"), USUAL_DIRECT, 18)?;
@@ -436,7 +436,7 @@ fn is_on(word: Option<&str>) -> bool
 /// What the matches of `run` name.
 fn run_words<'a>(matches: &ArgMatches<'a>) -> Option<RunWords<'a>>
     ensures same { option_map named_as result ≡ named_by (rows_of (found_of matches.now)) }
-    ensures within { IfSome result (λ run. IsWithin (CommandWords.Run run)) }
+    ensures within { IfSome result (λ run. AreWithinLimits (CommandWords.Run run)) }
 {
     let dump = matches.get_str("dump")?;
     let every = every_of(matches.get_str("every"))?;
@@ -477,7 +477,7 @@ fn seed_of(word: &str) -> Option<u64>
 fn make_words(matches: &ArgMatches<'_>) -> Option<MakeWords>
     ensures same { option_map (λ made. asked_as (CommandWords.Make made)) result
         ≡ made_by (rows_of (found_of matches.now)) }
-    ensures within { IfSome result (λ made. IsWithin (CommandWords.Make made)) }
+    ensures within { IfSome result (λ made. AreWithinLimits (CommandWords.Make made)) }
 {
     let routes = routes_of(matches.get_str("routes")?)?;
     let seed = seed_of(matches.get_str("seed")?)?;
@@ -487,7 +487,7 @@ fn make_words(matches: &ArgMatches<'_>) -> Option<MakeWords>
 /// What the matches of `steps` name.
 fn steps_words<'a>(matches: &ArgMatches<'a>) -> Option<StepsWords<'a>>
     ensures same { option_map steps_as result ≡ steps_by (rows_of (found_of matches.now)) }
-    ensures within { IfSome result (λ steps. IsWithin (CommandWords.Steps steps)) }
+    ensures within { IfSome result (λ steps. AreWithinLimits (CommandWords.Steps steps)) }
 {
     let dump = matches.get_str("dump")?;
     let updates = matches.get_str("updates")?;
@@ -576,7 +576,7 @@ fn moves_of<'a>(
 ) -> Option<CommandWords<'a>>
     ensures same { option_map asked_as result ≡ moves_asked router.now printed.now
         (option_map (λ w. w.now) moves.entry) check steady }
-    ensures within { IfSome result IsWithin }
+    ensures within { IfSome result AreWithinLimits }
 {
     match (moves, check, steady) {
         (None, false, _) => Some(CommandWords::Moves(MovesWords {
@@ -596,7 +596,7 @@ fn moves_of<'a>(
 /// What the matches of `moves` ask for.
 fn moves_words<'a>(matches: &ArgMatches<'a>) -> Option<CommandWords<'a>>
     ensures same { option_map asked_as result ≡ moves_by (rows_of (found_of matches.now)) }
-    ensures within { IfSome result IsWithin }
+    ensures within { IfSome result AreWithinLimits }
 {
     let router = matches.get_str("router")?;
     let printed = matches.get_str("printed")?;
@@ -611,7 +611,7 @@ fn other_command<'a>(matches: &ArgMatches<'a>) -> Option<CommandWords<'a>>
     requires { subcommand_name_of matches.now ≢ Some (codes "same") }
     ensures same { option_map asked_as result ≡ option_and_then asked_in
         (subcommand_rows_of matches.now) }
-    ensures within { IfSome result IsWithin }
+    ensures within { IfSome result AreWithinLimits }
 {
     if let Some(run) = matches.subcommand_matches("run") {
         let names = run_words(run)?;
@@ -644,7 +644,7 @@ fn command_in<'a>(
 ) -> Result<Option<CommandWords<'a>>, AllocError>
     ensures same { IfOk result (λ command. option_map asked_as command ≡ option_and_then asked_in
         (subcommand_rows_of matches.now)) }
-    ensures within { IfOk result (λ command. IfSome command IsWithin) }
+    ensures within { IfOk result (λ command. IfSome command AreWithinLimits) }
 {
     let Some(same) = matches.subcommand_matches("same") else {
         return Ok(other_command(matches));
@@ -662,7 +662,7 @@ fn command_in<'a>(
 /// its range. What comes is in its ranges.
 pub fn read_words<'a>(alloc: Global, words: &'a [String]) -> Result<CommandWords<'a>, WordsError>
     ensures command { IsCommand result (command_of (map string_bytes words.now)) }
-    ensures within { IfOk result IsWithin }
+    ensures within { IfOk result AreWithinLimits }
 {
     let command: Command<'a> = fib_command(alloc)?;
     let matches = match command.try_get_matches_from(words) {

@@ -22,7 +22,7 @@ use Rattle.table_model.proofs.Cut.{entry}
 use Rattle.route_model.proofs.Keyed.{same_entries, all_filter}
 use Rattle.route_model.proofs.Places.{prefix_key}
 use Rattle.table_model.specs.Halves.{is_within}
-use Rattle.kept_model.specs.Between.{AreEntries, place_of, hop_at, change_at, between}
+use Rattle.kept_model.specs.Between.{AreEntries, place_of, entry_hop_at, change_at, between}
 use Rattle.kept_model.proofs.Held.{Placed, first, all_both, all_folded}
 use Rattle.kept_model.proofs.Alike.{same_changes, all_between, placed_are}
 use Rattle.kept_model.proofs.Places.{at, in_places, each_at}
@@ -76,16 +76,16 @@ are_both A B a b x y = (all_both IsPrefix A B a.0 b.0, subst (λ (ps : List Pref
 
 -- ---- what is found in tables of both families
 
-pub hop_none : (f : Family) (p : Prefix) (L : Entries) → AllOf f (keys_of L) → same_family p.family f ≡ false → hop_at p L ≡ None
+pub hop_none : (f : Family) (p : Prefix) (L : Entries) → AllOf f (keys_of L) → same_family p.family f ≡ false → entry_hop_at p L ≡ None
 hop_none f p [] a n = refl
 hop_none f p (e ∷ L) a n =
-    ap (λ b. cond (b && same_bits p.bits e.0.bits) (Some e.1) (hop_at p L)) (ap (same_family p.family) a.0 ∙ n) ∙ hop_none f p L a.1 n
+    ap (λ b. cond (b && same_bits p.bits e.0.bits) (Some e.1) (entry_hop_at p L)) (ap (same_family p.family) a.0 ∙ n) ∙ hop_none f p L a.1 n
 
-hop_append : (p : Prefix) (A B : Entries) → hop_at p (A ++ B) ≡ first (hop_at p A) (hop_at p B)
+hop_append : (p : Prefix) (A B : Entries) → entry_hop_at p (A ++ B) ≡ first (entry_hop_at p A) (entry_hop_at p B)
 hop_append p [] B = refl
 hop_append p (e ∷ A) B = by_test (same_prefix p e.0) (hop_append p A B)
   where
-    by_test : (b : Bool) → hop_at p (A ++ B) ≡ first (hop_at p A) (hop_at p B) → cond b (Some e.1) (hop_at p (A ++ B)) ≡ first (cond b (Some e.1) (hop_at p A)) (hop_at p B)
+    by_test : (b : Bool) → entry_hop_at p (A ++ B) ≡ first (entry_hop_at p A) (entry_hop_at p B) → cond b (Some e.1) (entry_hop_at p (A ++ B)) ≡ first (cond b (Some e.1) (entry_hop_at p A)) (entry_hop_at p B)
     by_test true ih = refl
     by_test false ih = ih
 
@@ -93,11 +93,11 @@ first_none : (o : Option ℕ) → first o None ≡ o
 first_none None = refl
 first_none (Some h) = refl
 
-pub hop_low : (p : Prefix) (A B : Entries) → p.family ≡ V4 → AllOf V6 (keys_of B) → hop_at p (A ++ B) ≡ hop_at p A
-hop_low p A B e b = hop_append p A B ∙ (ap (first (hop_at p A)) (hop_none V6 p B b (ap (λ (g : Family). same_family g V6) e)) ∙ first_none (hop_at p A))
+pub hop_low : (p : Prefix) (A B : Entries) → p.family ≡ V4 → AllOf V6 (keys_of B) → entry_hop_at p (A ++ B) ≡ entry_hop_at p A
+hop_low p A B e b = hop_append p A B ∙ (ap (first (entry_hop_at p A)) (hop_none V6 p B b (ap (λ (g : Family). same_family g V6) e)) ∙ first_none (entry_hop_at p A))
 
-pub hop_high : (p : Prefix) (A B : Entries) → p.family ≡ V6 → AllOf V4 (keys_of A) → hop_at p (A ++ B) ≡ hop_at p B
-hop_high p A B e a = hop_append p A B ∙ ap (λ o. first o (hop_at p B)) (hop_none V4 p A a (ap (λ (g : Family). same_family g V4) e))
+pub hop_high : (p : Prefix) (A B : Entries) → p.family ≡ V6 → AllOf V4 (keys_of A) → entry_hop_at p (A ++ B) ≡ entry_hop_at p B
+hop_high p A B e a = hop_append p A B ∙ ap (λ o. first o (entry_hop_at p B)) (hop_none V4 p A a (ap (λ (g : Family). same_family g V4) e))
 
 -- ---- the changes between tables of both families are those of IPv4, then those of IPv6
 
@@ -115,22 +115,22 @@ between_both A B A' B' a b a' b' x y x' y' =
     (subst (λ (ps : List Prefix). AllByRecursion IsPrefix ps) (sym parts) (all_append IsPrefix (map place_of xs) (map place_of ys) (all_between IsPrefix A A' a.0 a'.0) (all_between IsPrefix B B' b.0 b'.0)))
     (λ p. each_at (A ++ B) (A' ++ B') p (placed_are (A ++ B) whole) (placed_are (A' ++ B') whole') ∙ (by_family p p.family refl ∙ sym (filter-append (λ c. same_prefix p (place_of c)) xs ys)))
   where
-    by_family : (p : Prefix) (g : Family) → p.family ≡ g → change_at p (hop_at p (A ++ B)) (hop_at p (A' ++ B')) ≡ at p (between A A') ++ at p (between B B')
+    by_family : (p : Prefix) (g : Family) → p.family ≡ g → change_at p (entry_hop_at p (A ++ B)) (entry_hop_at p (A' ++ B')) ≡ at p (between A A') ++ at p (between B B')
     by_family p V4 e =
         let none : at p (between B B') ≡ [] =
         each_at B B' p (placed_are B b) (placed_are B' b')
-        ∙ (ap (λ o. change_at p o (hop_at p B')) (hop_none V6 p B y (ap (λ (g : Family). same_family g V6) e)) ∙ ap (change_at p None) (hop_none V6 p B' y' (ap (λ (g : Family). same_family g V6) e)))
+        ∙ (ap (λ o. change_at p o (entry_hop_at p B')) (hop_none V6 p B y (ap (λ (g : Family). same_family g V6) e)) ∙ ap (change_at p None) (hop_none V6 p B' y' (ap (λ (g : Family). same_family g V6) e)))
         in
-        ap (λ o. change_at p o (hop_at p (A' ++ B'))) (hop_low p A B e y)
-        ∙ (ap (change_at p (hop_at p A)) (hop_low p A' B' e y')
+        ap (λ o. change_at p o (entry_hop_at p (A' ++ B'))) (hop_low p A B e y)
+        ∙ (ap (change_at p (entry_hop_at p A)) (hop_low p A' B' e y')
         ∙ (sym (each_at A A' p (placed_are A a) (placed_are A' a')) ∙ (sym (append-nil (at p (between A A'))) ∙ ap (λ z. at p (between A A') ++ z) (sym none))))
     by_family p V6 e =
         let none : at p (between A A') ≡ [] =
         each_at A A' p (placed_are A a) (placed_are A' a')
-        ∙ (ap (λ o. change_at p o (hop_at p A')) (hop_none V4 p A x (ap (λ (g : Family). same_family g V4) e)) ∙ ap (change_at p None) (hop_none V4 p A' x' (ap (λ (g : Family). same_family g V4) e)))
+        ∙ (ap (λ o. change_at p o (entry_hop_at p A')) (hop_none V4 p A x (ap (λ (g : Family). same_family g V4) e)) ∙ ap (change_at p None) (hop_none V4 p A' x' (ap (λ (g : Family). same_family g V4) e)))
         in
-        ap (λ o. change_at p o (hop_at p (A' ++ B'))) (hop_high p A B e x)
-        ∙ (ap (change_at p (hop_at p B)) (hop_high p A' B' e x') ∙ (sym (each_at B B' p (placed_are B b) (placed_are B' b')) ∙ ap (λ z. z ++ at p (between B B')) (sym none)))
+        ap (λ o. change_at p o (entry_hop_at p (A' ++ B'))) (hop_high p A B e x)
+        ∙ (ap (change_at p (entry_hop_at p B)) (hop_high p A' B' e x') ∙ (sym (each_at B B' p (placed_are B b) (placed_are B' b')) ∙ ap (λ z. z ++ at p (between B B')) (sym none)))
 
 -- ---- a repair is in the tables of one family alone
 
@@ -172,12 +172,12 @@ module _ (R R' A B : Entries) (p : Prefix) (is : IsPrefix p) (a : Placed A) (b :
       same : of_family p.family (A ++ B) ≡ of_family p.family A
       same = family_append p.family A B ∙ (ap (λ (L : Table). of_family p.family A ++ L) (family_none p.family V6 B y (ap (λ (g : Family). same_family g V6) e)) ∙ append-nil (of_family p.family A))
 
-      by_family : (q : Prefix) (g : Family) → q.family ≡ g → cond (is_within q p) (hop_at q (region_aggregate R p (A ++ B))) (hop_at q (A ++ B)) ≡ hop_at q (patch_of R' p A ++ B)
+      by_family : (q : Prefix) (g : Family) → q.family ≡ g → cond (is_within q p) (entry_hop_at q (region_aggregate R p (A ++ B))) (entry_hop_at q (A ++ B)) ≡ entry_hop_at q (patch_of R' p A ++ B)
       by_family q V4 f =
-          ap (λ (M : Entries). cond (is_within q p) (hop_at q M) (hop_at q (A ++ B))) (mended_same R R' (A ++ B) A p r same)
-          ∙ (ap (cond (is_within q p) (hop_at q (region_aggregate R' p A))) (hop_low q A B f y) ∙ (sym (hop_patched R' A p q is a) ∙ sym (hop_low q (patch_of R' p A) B f y)))
+          ap (λ (M : Entries). cond (is_within q p) (entry_hop_at q M) (entry_hop_at q (A ++ B))) (mended_same R R' (A ++ B) A p r same)
+          ∙ (ap (cond (is_within q p) (entry_hop_at q (region_aggregate R' p A))) (hop_low q A B f y) ∙ (sym (hop_patched R' A p q is a) ∙ sym (hop_low q (patch_of R' p A) B f y)))
       by_family q V6 f =
-          ap (λ c. cond (c && begins p.bits q.bits) (hop_at q (region_aggregate R p (A ++ B))) (hop_at q (A ++ B))) (ap (λ (g : Family). same_family g q.family) e ∙ ap (same_family V4) f)
+          ap (λ c. cond (c && begins p.bits q.bits) (entry_hop_at q (region_aggregate R p (A ++ B))) (entry_hop_at q (A ++ B))) (ap (λ (g : Family). same_family g q.family) e ∙ ap (same_family V4) f)
           ∙ (hop_high q A B f x ∙ sym (hop_high q (patch_of R' p A) B f (patched_of R' A p V4 e x)))
 
   pub patched_high : p.family ≡ V6 → patch_of R p (A ++ B) ≡ A ++ patch_of R' p B
@@ -190,10 +190,10 @@ module _ (R R' A B : Entries) (p : Prefix) (is : IsPrefix p) (a : Placed A) (b :
       same : of_family p.family (A ++ B) ≡ of_family p.family B
       same = family_append p.family A B ∙ ap (λ (L : Table). L ++ of_family p.family B) (family_none p.family V4 A x (ap (λ (g : Family). same_family g V4) e))
 
-      by_family : (q : Prefix) (g : Family) → q.family ≡ g → cond (is_within q p) (hop_at q (region_aggregate R p (A ++ B))) (hop_at q (A ++ B)) ≡ hop_at q (A ++ patch_of R' p B)
+      by_family : (q : Prefix) (g : Family) → q.family ≡ g → cond (is_within q p) (entry_hop_at q (region_aggregate R p (A ++ B))) (entry_hop_at q (A ++ B)) ≡ entry_hop_at q (A ++ patch_of R' p B)
       by_family q V6 f =
-          ap (λ (M : Entries). cond (is_within q p) (hop_at q M) (hop_at q (A ++ B))) (mended_same R R' (A ++ B) B p r same)
-          ∙ (ap (cond (is_within q p) (hop_at q (region_aggregate R' p B))) (hop_high q A B f x) ∙ (sym (hop_patched R' B p q is b) ∙ sym (hop_high q A (patch_of R' p B) f x)))
+          ap (λ (M : Entries). cond (is_within q p) (entry_hop_at q M) (entry_hop_at q (A ++ B))) (mended_same R R' (A ++ B) B p r same)
+          ∙ (ap (cond (is_within q p) (entry_hop_at q (region_aggregate R' p B))) (hop_high q A B f x) ∙ (sym (hop_patched R' B p q is b) ∙ sym (hop_high q A (patch_of R' p B) f x)))
       by_family q V4 f =
-          ap (λ c. cond (c && begins p.bits q.bits) (hop_at q (region_aggregate R p (A ++ B))) (hop_at q (A ++ B))) (ap (λ (g : Family). same_family g q.family) e ∙ ap (same_family V6) f)
+          ap (λ c. cond (c && begins p.bits q.bits) (entry_hop_at q (region_aggregate R p (A ++ B))) (entry_hop_at q (A ++ B))) (ap (λ (g : Family). same_family g q.family) e ∙ ap (same_family V6) f)
           ∙ (hop_low q A B f y ∙ sym (hop_low q A (patch_of R' p B) f (patched_of R' B p V6 e y)))

@@ -22,7 +22,7 @@ use Rattle.route_model.specs.Choice.{Candidates, AreCandidates, IsElem, after_el
 use Rattle.route_model.proofs.Said.{candidates_after}
 use Rattle.route_model.proofs.Keyed.{same_entries}
 use Rattle.route_model.proofs.Places.{prefix_key}
-use Rattle.kept_model.specs.Between.{AreEntries, hop_at}
+use Rattle.kept_model.specs.Between.{AreEntries, entry_hop_at}
 use Rattle.kept_model.proofs.Held.{Placed, hop_in_order}
 use Rattle.kept_model.proofs.Alike.{placed_are}
 use Rattle.kept_model.specs.Patched.{patch_of, after_repair}
@@ -53,7 +53,7 @@ snapshot_entries R T f q =
         one : (g : Family) → AreEntries (aggregate_in g R T)
         one g = table_entries g (aggregate (width g) (of_family g R) [] 0 (of_family g T)) (aggregate_table (width g) (of_family g R) [] 0 (of_family g T) (none_short g))
 
-    by_family : (g : Family) → hop_at (record { family = g; bits = q }) (aggregate_in_both R T) ≡ entry_at q (aggregate (width g) (of_family g R) [] 0 (of_family g T))
+    by_family : (g : Family) → entry_hop_at (record { family = g; bits = q }) (aggregate_in_both R T) ≡ entry_at q (aggregate (width g) (of_family g R) [] 0 (of_family g T))
     by_family V4 = hop_low (record { family = V4; bits = q }) (aggregate_in V4 R T) (aggregate_in V6 R T) refl (table_of V6 (aggregate (width V6) (of_family V6 R) [] 0 (of_family V6 T))) ∙ table_hop V4 q (aggregate (width V4) (of_family V4 R) [] 0 (of_family V4 T))
     by_family V6 = hop_high (record { family = V6; bits = q }) (aggregate_in V4 R T) (aggregate_in V6 R T) refl (table_of V4 (aggregate (width V4) (of_family V4 R) [] 0 (of_family V4 T))) ∙ table_hop V6 q (aggregate (width V6) (of_family V6 R) [] 0 (of_family V6 T))
 
@@ -106,7 +106,7 @@ module _ (hops : List Address) (held : Candidates) (elem : Elem) (a : AreCandida
       by_test q false t = refl
 
   -- elsewhere the routes stay
-  other_routes : (q : Prefix) → same_prefix q (elem_prefix elem) ≡ false → hop_at q (entries_of hops held) ≡ hop_at q (entries_of hops (after_elem held elem))
+  other_routes : (q : Prefix) → same_prefix q (elem_prefix elem) ≡ false → entry_hop_at q (entries_of hops held) ≡ entry_hop_at q (entries_of hops (after_elem held elem))
   other_routes q n = sym (entry_after hops held elem q a e ∙ ap (λ t. cond t (new_entry hops held elem) (lookup (same_prefix q) (entries_of hops held))) n)
 
   not_within : (q : List Bool) (f : Family) → begins (elem_prefix elem).bits q ≡ false → same_prefix (record { family = f; bits = q }) (elem_prefix elem) ≡ false

@@ -11,7 +11,7 @@ use Rattle.table_model.specs.Changes.{is_held}
 use Rattle.table_model.proofs.Sums.{in_order_sorted, all_placed}
 use Rattle.route_model.proofs.Keyed.{lookup-put}
 use Rattle.route_model.proofs.Places.{prefix_key}
-use Rattle.kept_model.specs.Between.{AreEntries, hop_at}
+use Rattle.kept_model.specs.Between.{AreEntries, entry_hop_at}
 
 -- prefixes in order, each once
 abbrev pub Placed : Entries → Type 0
@@ -24,20 +24,20 @@ first (Some h) o = Some h
 
 -- ---- lookups of entries put in order
 
-other : (p q : Prefix) (L : Entries) → same_prefix p q ≡ true → AllByRecursion (λ r. same_prefix q r ≡ false) (keys_of L) → hop_at p L ≡ None
+other : (p q : Prefix) (L : Entries) → same_prefix p q ≡ true → AllByRecursion (λ r. same_prefix q r ≡ false) (keys_of L) → entry_hop_at p L ≡ None
 other p q [] e a = refl
 other p q (f ∷ L) e a =
     let s : p ≡ q = prefix_key.same p q e in
-    ap (λ b. cond b (Some f.1) (hop_at p L)) (ap (λ r. same_prefix r f.0) s ∙ a.0) ∙ other p q L e a.1
+    ap (λ b. cond b (Some f.1) (entry_hop_at p L)) (ap (λ r. same_prefix r f.0) s ∙ a.0) ∙ other p q L e a.1
 
-pub hop_folded : (p : Prefix) (L T : Entries) → AllByRecursion IsPrefix (keys_of L) → IsDistinct same_prefix (keys_of L) → AllByRecursion IsPrefix (keys_of T) → hop_at p (fold with_entry T L) ≡ first (hop_at p L) (hop_at p T)
+pub hop_folded : (p : Prefix) (L T : Entries) → AllByRecursion IsPrefix (keys_of L) → IsDistinct same_prefix (keys_of L) → AllByRecursion IsPrefix (keys_of T) → entry_hop_at p (fold with_entry T L) ≡ first (entry_hop_at p L) (entry_hop_at p T)
 unfolding IsDistinct
 hop_folded p [] T a d b = refl
 hop_folded p (e ∷ L) T a d b =
     hop_folded p L (with_entry T e) a.1 d.1 (all_placed IsPrefix T e.0 e.1 b a.0)
-    ∙ (ap (first (hop_at p L)) (lookup-put prefix_key p T e.0 e.1 b a.0) ∙ by_test (same_prefix p e.0) refl)
+    ∙ (ap (first (entry_hop_at p L)) (lookup-put prefix_key p T e.0 e.1 b a.0) ∙ by_test (same_prefix p e.0) refl)
   where
-    by_test : (t : Bool) → same_prefix p e.0 ≡ t → first (hop_at p L) (cond t (Some e.1) (hop_at p T)) ≡ first (cond t (Some e.1) (hop_at p L)) (hop_at p T)
+    by_test : (t : Bool) → same_prefix p e.0 ≡ t → first (entry_hop_at p L) (cond t (Some e.1) (entry_hop_at p T)) ≡ first (cond t (Some e.1) (entry_hop_at p L)) (entry_hop_at p T)
     by_test true t = ap (λ o. first o (Some e.1)) (other p e.0 L t d.0)
     by_test false t = refl
 
@@ -45,8 +45,8 @@ none_after : (o : Option ℕ) → first o None ≡ o
 none_after None = refl
 none_after (Some h) = refl
 
-pub hop_in_order : (p : Prefix) (L : Entries) → AreEntries L → hop_at p (in_order L) ≡ hop_at p L
-hop_in_order p L a = hop_folded p L [] a.0 a.1 tt ∙ none_after (hop_at p L)
+pub hop_in_order : (p : Prefix) (L : Entries) → AreEntries L → entry_hop_at p (in_order L) ≡ entry_hop_at p L
+hop_in_order p L a = hop_folded p L [] a.0 a.1 tt ∙ none_after (entry_hop_at p L)
 
 -- ---- where they are
 
@@ -67,7 +67,7 @@ some_cond false h o = refl
 
 held_any : (p : Prefix) (L : Entries) → is_held p L ≡ list_any (same_prefix p) (keys_of L)
 held_any p [] = refl
-held_any p (e ∷ L) = some_cond (same_prefix p e.0) e.1 (hop_at p L) ∙ ap (λ b. same_prefix p e.0 || b) (held_any p L)
+held_any p (e ∷ L) = some_cond (same_prefix p e.0) e.1 (entry_hop_at p L) ∙ ap (λ b. same_prefix p e.0 || b) (held_any p L)
 
 any_both : (p : Prefix) (L M : Entries) → list_any (same_prefix p) (keys_of (L ++ M)) ≡ (list_any (same_prefix p) (keys_of L) || list_any (same_prefix p) (keys_of M))
 any_both p [] M = refl
@@ -81,7 +81,7 @@ held_folded : (p : Prefix) (L T : Entries) → AllByRecursion IsPrefix (keys_of 
 held_folded p [] T a b = refl
 held_folded p (e ∷ L) T a b =
     held_folded p L (with_entry T e) a.1 (all_placed IsPrefix T e.0 e.1 b a.0)
-    ∙ (ap (λ x. list_any (same_prefix p) (keys_of L) || x) (ap is_some (lookup-put prefix_key p T e.0 e.1 b a.0) ∙ some_cond (same_prefix p e.0) e.1 (hop_at p T)) ∙ regroup (list_any (same_prefix p) (keys_of L)) (same_prefix p e.0) (is_held p T))
+    ∙ (ap (λ x. list_any (same_prefix p) (keys_of L) || x) (ap is_some (lookup-put prefix_key p T e.0 e.1 b a.0) ∙ some_cond (same_prefix p e.0) e.1 (entry_hop_at p T)) ∙ regroup (list_any (same_prefix p) (keys_of L)) (same_prefix p e.0) (is_held p T))
   where
     regroup : (a b c : Bool) → (a || (b || c)) ≡ ((b || a) || c)
     regroup true true c = refl

@@ -15,7 +15,7 @@ use Rattle.table_model.specs.Entries.{Entries, with_entry, in_order}
 use Rattle.table_model.specs.Changes.{Add, Remove}
 use Rattle.route_model.proofs.Keyed.{lookup-below, not_same_greater}
 use Rattle.route_model.proofs.Places.{prefix_key}
-use Rattle.kept_model.specs.Between.{hop_at, change_at, changes_at, between}
+use Rattle.kept_model.specs.Between.{entry_hop_at, change_at, changes_at, between}
 use Rattle.kept_model.proofs.Held.{all_folded, all_both}
 
 -- the prefix is before all of the entries
@@ -47,17 +47,17 @@ past : (p q : Prefix) → prefix_cmp p q ≡ Less → same_prefix q p ≡ false
 past p q l = not_same_greater prefix_key p q l
 
 skip : (ps : List Prefix) (e : Prefix × ℕ) (old old' new new' : Entries) → AllByRecursion (λ q. prefix_cmp e.0 q ≡ Less) ps
-    → ((q : Prefix) → same_prefix q e.0 ≡ false → hop_at q old' ≡ hop_at q old) → ((q : Prefix) → same_prefix q e.0 ≡ false → hop_at q new' ≡ hop_at q new) → changes_at ps old' new' ≡ changes_at ps old new
+    → ((q : Prefix) → same_prefix q e.0 ≡ false → entry_hop_at q old' ≡ entry_hop_at q old) → ((q : Prefix) → same_prefix q e.0 ≡ false → entry_hop_at q new' ≡ entry_hop_at q new) → changes_at ps old' new' ≡ changes_at ps old new
 skip [] e old old' new new' b h k = refl
 skip (p ∷ ps) e old old' new new' b h k =
     let n = past e.0 p b.0 in
-    ap (λ z. change_at p z (hop_at p new') ++ changes_at ps old' new') (h p n) ∙ (ap (λ z. change_at p (hop_at p old) z ++ changes_at ps old' new') (k p n) ∙ ap (λ z. change_at p (hop_at p old) (hop_at p new) ++ z) (skip ps e old old' new new' b.1 h k))
+    ap (λ z. change_at p z (entry_hop_at p new') ++ changes_at ps old' new') (h p n) ∙ (ap (λ z. change_at p (entry_hop_at p old) z ++ changes_at ps old' new') (k p n) ∙ ap (λ z. change_at p (entry_hop_at p old) (entry_hop_at p new) ++ z) (skip ps e old old' new new' b.1 h k))
 
-more : (q : Prefix) (e : Prefix × ℕ) (L : Entries) → same_prefix q e.0 ≡ false → hop_at q (e ∷ L) ≡ hop_at q L
-more q e L n = ap (λ z. cond z (Some e.1) (hop_at q L)) n
+more : (q : Prefix) (e : Prefix × ℕ) (L : Entries) → same_prefix q e.0 ≡ false → entry_hop_at q (e ∷ L) ≡ entry_hop_at q L
+more q e L n = ap (λ z. cond z (Some e.1) (entry_hop_at q L)) n
 
-here : (p : Prefix) (e : Prefix × ℕ) (L : Entries) → p ≡ e.0 → hop_at p (e ∷ L) ≡ Some e.1
-here p e L s = ap (λ z. cond z (Some e.1) (hop_at p L)) (ap (λ z. same_prefix z e.0) s ∙ prefix_key.itself e.0)
+here : (p : Prefix) (e : Prefix × ℕ) (L : Entries) → p ≡ e.0 → entry_hop_at p (e ∷ L) ≡ Some e.1
+here p e L s = ap (λ z. cond z (Some e.1) (entry_hop_at p L)) (ap (λ z. same_prefix z e.0) s ∙ prefix_key.itself e.0)
 
 all_keys : (e : Prefix × ℕ) (old new : Entries) → Below e.0 old → Below e.0 new → AllByRecursion (λ q. prefix_cmp e.0 q ≡ Less) (keys_of (in_order (old ++ new)))
 all_keys e old new a b = all_folded (λ q. prefix_cmp e.0 q ≡ Less) (old ++ new) [] (all_both (λ q. prefix_cmp e.0 q ≡ Less) old new a b) tt
@@ -68,7 +68,7 @@ unfolding between
 first_old e old new a b =
     let ps = keys_of (in_order (old ++ new)) in
     ap (λ (L : Entries). changes_at (keys_of L) (e ∷ old) new) (first_stays e (old ++ new) [] (all_both (λ q. prefix_cmp e.0 q ≡ Less) old new a b))
-    ∙ (ap (λ z. change_at e.0 z (hop_at e.0 new) ++ changes_at ps (e ∷ old) new) (here e.0 e old refl)
+    ∙ (ap (λ z. change_at e.0 z (entry_hop_at e.0 new) ++ changes_at ps (e ∷ old) new) (here e.0 e old refl)
     ∙ (ap (λ z. change_at e.0 (Some e.1) z ++ changes_at ps (e ∷ old) new) (lookup-below prefix_key e.0 new b)
     ∙ ap (λ z. Remove e.0 ∷ z) (skip ps e old (e ∷ old) new new (all_keys e old new a b) (λ q n. more q e old n) (λ q n. refl))))
 
@@ -82,7 +82,7 @@ first_new f old new a b =
     ∙ (ap (λ (M : Entries). fold with_entry M new) (put_first f (in_order old) (all_folded (λ q. prefix_cmp f.0 q ≡ Less) old [] a tt)) ∙ (first_stays f new (in_order old) b ∙ ap (λ (M : Entries). f ∷ M) (sym (fold-append with_entry [] old new))))
     in
     ap (λ (L : Entries). changes_at (keys_of L) old (f ∷ new)) order
-    ∙ (ap (λ z. change_at f.0 z (hop_at f.0 (f ∷ new)) ++ changes_at ps old (f ∷ new)) (lookup-below prefix_key f.0 old a)
+    ∙ (ap (λ z. change_at f.0 z (entry_hop_at f.0 (f ∷ new)) ++ changes_at ps old (f ∷ new)) (lookup-below prefix_key f.0 old a)
     ∙ (ap (λ z. change_at f.0 None z ++ changes_at ps old (f ∷ new)) (here f.0 f new refl)
     ∙ ap (λ z. Add f.0 f.1 ∷ z) (skip ps f old old new (f ∷ new) (all_keys f old new a b) (λ q n. refl) (λ q n. more q f new n))))
 
@@ -98,6 +98,6 @@ first_both e f old new s a b =
     ∙ (ap (λ (M : Entries). fold with_entry M new) (put_over e f (in_order old) s) ∙ (first_stays g new (in_order old) b ∙ ap (λ (M : Entries). g ∷ M) (sym (fold-append with_entry [] old new)))))
     in
     ap (λ (L : Entries). changes_at (keys_of L) (e ∷ old) (f ∷ new)) order
-    ∙ (ap (λ z. change_at e.0 z (hop_at e.0 (f ∷ new)) ++ changes_at ps (e ∷ old) (f ∷ new)) (here e.0 e old refl)
+    ∙ (ap (λ z. change_at e.0 z (entry_hop_at e.0 (f ∷ new)) ++ changes_at ps (e ∷ old) (f ∷ new)) (here e.0 e old refl)
     ∙ (ap (λ z. change_at e.0 (Some e.1) z ++ changes_at ps (e ∷ old) (f ∷ new)) (here e.0 f new s)
     ∙ ap (λ z. change_at e.0 (Some e.1) (Some f.1) ++ z) (skip ps e old (e ∷ old) new (f ∷ new) (all_keys e old new a b) (λ q n. more q e old n) (λ q n. more q f new (ap (same_prefix q) (sym s) ∙ n)))))

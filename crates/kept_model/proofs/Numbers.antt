@@ -14,7 +14,7 @@ use Rattle.std.proofs.lemmas.List.Sums.{fold-append}
 use Rattle.table_model.specs.Address.{Address, Prefix, same_address, same_prefix}
 use Rattle.table_model.specs.Changes.{Add, Replace}
 use Rattle.route_model.specs.Events.{Elem, Put, Cut, elem_prefix}
-use Rattle.route_model.specs.Choice.{Place, Offer, Candidates, same_place, place_cmp, after_elem, after_elems, is_chosen, chosen_in, routes_of, chosen_for}
+use Rattle.route_model.specs.Choice.{Place, PathAttrs, Candidates, same_place, place_cmp, after_elem, after_elems, is_chosen, chosen_in, routes_of, chosen_for}
 use Rattle.fib_addr.specs.Hops.{most_hops, number_of, hop_at, with_hop}
 use Rattle.fib_addr.proofs.HopLists.{brought_number, folded_distinct, folded_stays, none_distinct, number_holds, number_range}
 use Rattle.kept_model.specs.Feed.{brought, hops_after, full_at, number_in, entries_of, change_of, change_by, route_by, routes_in, IsNumbered, AreNumbered}
@@ -138,7 +138,7 @@ values_filter {K = K} test P (e ∷ es) a = by_test (test e) (values_filter test
     by_test false more = more
 
 abbrev AllNumbered : List Address → Candidates → Type 0
-AllNumbered hops held = AllValues (λ (offer : Offer). IsNumbered hops offer.hop) held
+AllNumbered hops held = AllValues (λ (attrs : PathAttrs). IsNumbered hops attrs.hop) held
 
 more_numbered : (hops : List Address) (elems : List Elem) (held : Candidates) → AllNumbered hops held → AllNumbered (hops_after hops elems) held
 more_numbered hops elems [] a = tt
@@ -148,13 +148,13 @@ numbered_after : (hops : List Address) (held : Candidates) (elems : List Elem) �
 numbered_after hops held [] a = a
 numbered_after hops held (Put via prefix path hop ∷ elems) a =
     let at : Place = record { prefix = prefix; via = via } in
-    let offer : Offer = record { path = path; hop = hop } in
+    let attrs : PathAttrs = record { path = path; hop = hop } in
     let elem = Put via prefix path hop in
     let old = more_numbered hops (elem ∷ []) held a in
-    numbered_after (with_hop hops hop) (after_elem held elem) elems (values_put place_cmp (λ (x : Offer). IsNumbered (with_hop hops hop) x.hop) held at offer old (brought_is hops hop))
+    numbered_after (with_hop hops hop) (after_elem held elem) elems (values_put place_cmp (λ (x : PathAttrs). IsNumbered (with_hop hops hop) x.hop) held at attrs old (brought_is hops hop))
 numbered_after hops held (Cut via prefix ∷ elems) a =
     let at : Place = record { prefix = prefix; via = via } in
-    numbered_after hops (after_elem held (Cut via prefix)) elems (values_cut (same_place at) (λ (x : Offer). IsNumbered hops x.hop) held a)
+    numbered_after hops (after_elem held (Cut via prefix)) elems (values_cut (same_place at) (λ (x : PathAttrs). IsNumbered hops x.hop) held a)
 
 numbered_routes : (hops : List Address) (cs : Candidates) → AllNumbered hops cs → AllByRecursion (λ (r : Prefix × Address). IsNumbered hops r.1) (map (λ c. (c.0.prefix, c.1.hop)) cs)
 numbered_routes hops [] a = tt
@@ -164,7 +164,7 @@ pub routes_numbered : (elems : List Elem) → AreNumbered (hops_after [] elems) 
 routes_numbered elems =
     let held = after_elems [] elems in
     let hops = hops_after [] elems in
-    numbered_routes hops (chosen_in held) (values_filter (is_chosen held) (λ (x : Offer). IsNumbered hops x.hop) held (numbered_after [] [] elems tt))
+    numbered_routes hops (chosen_in held) (values_filter (is_chosen held) (λ (x : PathAttrs). IsNumbered hops x.hop) held (numbered_after [] [] elems tt))
 
 found_value : (P : Address → Type 0) (p : Prefix) (routes : List (Prefix × Address)) (hop : Address) → AllByRecursion (λ (r : Prefix × Address). P r.1) routes → lookup (same_prefix p) routes ≡ Some hop → P hop
 found_value P p [] hop a e = absurd cc

@@ -6,7 +6,7 @@ use Rattle.table_model.specs.Sets.{set_of, own, agg}
 use Rattle.table_model.proofs.Join.{root_join, low_join, high_join}
 use Rattle.table_model.proofs.Same.{cut_nil}
 use Rattle.table_model.proofs.Patch.{no_half}
-use Rattle.kept_model.specs.Parts.{BothOrNeither, ArePart, IsEnd}
+use Rattle.kept_model.specs.Parts.{BothOrNeither, ArePart, HasNoHalves}
 
 none_at : (q : List Bool) → entry_at q [] ≡ None
 none_at q = ap root (cut_nil q)
@@ -52,10 +52,10 @@ unfolding agg
 agg_no_bit f L h true = high_join (own (set_of zero f) (root L) h) [] []
 agg_no_bit f L h false = low_join (own (set_of zero f) (root L) h) [] []
 
-pub end_no_bit : (f : List Bool → ℕ) (L : Table) → IsTable zero L → IsEnd zero f L
+pub end_no_bit : (f : List Bool → ℕ) (L : Table) → IsTable zero L → HasNoHalves zero f L
 end_no_bit f L t b h = (no_half b L t.1, agg_no_bit f L h b)
 
-pub end_bare : (d : ℕ) (f : List Bool → ℕ) (L : Table) → L ≡ [] → ((h : ℕ) → (o : Option ℕ) × (here o ≡ agg d f L h)) → IsEnd d f L
+pub end_bare : (d : ℕ) (f : List Bool → ℕ) (L : Table) → L ≡ [] → ((h : ℕ) → (o : Option ℕ) × (here o ≡ agg d f L h)) → HasNoHalves d f L
 end_bare d f L e u b h = let x = u h in (ap (half b) e ∙ nothing b, ap (half b) (sym x.1) ∙ half_here b x.0)
   where
     nothing : (b : Bool) → half b [] ≡ []

@@ -16,7 +16,7 @@ use Rattle.table_model.specs.Least.{aggregate, patch}
 use Rattle.table_model.proofs.Patch.{patch_table, patch_alike, patch_least, begins_rest, same_length}
 use Rattle.table_model.proofs.Same.{cut_nil, same_answers, patch_keeps, patch_repairs}
 use Rattle.table_model.specs.Halves.{is_within}
-use Rattle.kept_model.specs.Between.{AreEntries, hop_at}
+use Rattle.kept_model.specs.Between.{AreEntries, entry_hop_at}
 use Rattle.kept_model.proofs.Held.{Placed}
 use Rattle.kept_model.proofs.Alike.{hop_in_replaced, replaced_placed, placed_are}
 use Rattle.kept_model.specs.Patched.{region_aggregate, patch_of}
@@ -35,18 +35,18 @@ own_step (false ∷ p) (false ∷ q) h L = own_step p q h (half false L)
 own_step (true ∷ p) (false ∷ q) h L = refl
 own_step (false ∷ p) (true ∷ q) h L = refl
 
-pub table_hop : (f : Family) (q : List Bool) (L : Table) → hop_at (record { family = f; bits = q }) (of_table f L) ≡ entry_at q L
+pub table_hop : (f : Family) (q : List Bool) (L : Table) → entry_hop_at (record { family = f; bits = q }) (of_table f L) ≡ entry_at q L
 table_hop f q [] = sym (ap root (cut_nil q))
 table_hop f q (e ∷ L) =
-    ap (λ b. cond (b && same_bits q e.prefix) (Some e.hop) (hop_at (record { family = f; bits = q }) (of_table f L))) (same_family_itself f)
+    ap (λ b. cond (b && same_bits q e.prefix) (Some e.hop) (entry_hop_at (record { family = f; bits = q }) (of_table f L))) (same_family_itself f)
     ∙ (ap (cond (same_bits q e.prefix) (Some e.hop)) (table_hop f q L) ∙ sym (own_step q e.prefix e.hop L))
 
-pub family_hop : (f : Family) (q : List Bool) (E : Entries) → entry_at q (of_family f E) ≡ hop_at (record { family = f; bits = q }) E
+pub family_hop : (f : Family) (q : List Bool) (E : Entries) → entry_at q (of_family f E) ≡ entry_hop_at (record { family = f; bits = q }) E
 family_hop f q [] = ap root (cut_nil q)
 family_hop f q (e ∷ E) = by_family (same_family f e.0.family) (family_hop f q E)
   where
     rest : Option ℕ
-    rest = hop_at (record { family = f; bits = q }) E
+    rest = entry_hop_at (record { family = f; bits = q }) E
 
     by_family : (b : Bool) → entry_at q (of_family f E) ≡ rest → entry_at q (cond b (entry e.0.bits e.1 ∷ of_family f E) (of_family f E)) ≡ cond (b && same_bits q e.0.bits) (Some e.1) rest
     by_family true ih = own_step q e.0.bits e.1 (of_family f E) ∙ ap (cond (same_bits q e.0.bits) (Some e.1)) ih
@@ -92,7 +92,7 @@ family_table f E a = (distinct f E a.1, short f E a.0)
 
 -- ---- the repaired table's entries
 
-pub hop_patched : (R T : Entries) (p q : Prefix) → IsPrefix p → Placed T → hop_at q (patch_of R p T) ≡ cond (is_within q p) (hop_at q (region_aggregate R p T)) (hop_at q T)
+pub hop_patched : (R T : Entries) (p q : Prefix) → IsPrefix p → Placed T → entry_hop_at q (patch_of R p T) ≡ cond (is_within q p) (entry_hop_at q (region_aggregate R p T)) (entry_hop_at q T)
 unfolding patch_of
 hop_patched R T p q x t = hop_in_replaced (λ r. is_within r p) q T (region_aggregate R p T) t (mended_entries R T p x) (mended_within R T p)
 
@@ -120,12 +120,12 @@ module _ (R T : Entries) (p : Prefix) (x : IsPrefix p) (t : Placed T) where
           ap (λ z. entry_at z A) e ∙ (sym (patch_repairs (width p.family) (of_family p.family T) (of_family p.family R) p.bits r) ∙ ap (λ z. entry_at z (patch (width p.family) (of_family p.family T) (of_family p.family R) p.bits)) (sym e))
 
       by_test : (b : Bool) → begins p.bits q ≡ b
-          → cond (is_within (record { family = p.family; bits = q }) p) (hop_at (record { family = p.family; bits = q }) (region_aggregate R p T)) (hop_at (record { family = p.family; bits = q }) T) ≡ entry_at q (patch (width p.family) (of_family p.family T) (of_family p.family R) p.bits)
+          → cond (is_within (record { family = p.family; bits = q }) p) (entry_hop_at (record { family = p.family; bits = q }) (region_aggregate R p T)) (entry_hop_at (record { family = p.family; bits = q }) T) ≡ entry_at q (patch (width p.family) (of_family p.family T) (of_family p.family R) p.bits)
       by_test true e =
           let r = begins_rest p.bits q e in
-          ap (λ c. cond c (hop_at (record { family = p.family; bits = q }) (region_aggregate R p T)) (hop_at (record { family = p.family; bits = q }) T)) (inside true e) ∙ (table_hop p.family q A ∙ at_rest r.0 r.1)
+          ap (λ c. cond c (entry_hop_at (record { family = p.family; bits = q }) (region_aggregate R p T)) (entry_hop_at (record { family = p.family; bits = q }) T)) (inside true e) ∙ (table_hop p.family q A ∙ at_rest r.0 r.1)
       by_test false e =
-          ap (λ c. cond c (hop_at (record { family = p.family; bits = q }) (region_aggregate R p T)) (hop_at (record { family = p.family; bits = q }) T)) (inside false e)
+          ap (λ c. cond c (entry_hop_at (record { family = p.family; bits = q }) (region_aggregate R p T)) (entry_hop_at (record { family = p.family; bits = q }) T)) (inside false e)
           ∙ (sym (family_hop p.family q T) ∙ sym (patch_keeps (width p.family) (of_family p.family T) (of_family p.family R) p.bits q e))
 
   pub patched_alike : ((a : List Bool) → length a ≡ width p.family → begins p.bits a ≡ false → lpm (of_family p.family T) a 0 ≡ lpm (of_family p.family R) a 0) → Alike (width p.family) (of_family p.family R) (of_family p.family (patch_of R p T))
@@ -144,4 +144,4 @@ module _ (R T : Entries) (p : Prefix) (x : IsPrefix p) (t : Placed T) where
   pub patched_elsewhere : (g : Family) → same_family p.family g ≡ false → SameEntries (of_family g (patch_of R p T)) (of_family g T)
   patched_elsewhere g n q =
       family_hop g q (patch_of R p T)
-      ∙ (hop_patched R T p (record { family = g; bits = q }) x t ∙ (ap (λ b. cond (b && begins p.bits q) (hop_at (record { family = g; bits = q }) (region_aggregate R p T)) (hop_at (record { family = g; bits = q }) T)) n ∙ sym (family_hop g q T)))
+      ∙ (hop_patched R T p (record { family = g; bits = q }) x t ∙ (ap (λ b. cond (b && begins p.bits q) (entry_hop_at (record { family = g; bits = q }) (region_aggregate R p T)) (entry_hop_at (record { family = g; bits = q }) T)) n ∙ sym (family_hop g q T)))

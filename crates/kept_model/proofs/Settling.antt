@@ -1,4 +1,4 @@
--- Regions off the marks.
+-- Regions off the dirty prefixes.
 use Rattle.std.proofs.Common.{◌≡◌, ℕ, zero, suc, ◌-◌, ◌≤◌, List, [], ◌∷◌, ◌++◌, Bool, true, false, length, Option, None, refl, sym, ap, subst, ◌∙◌, arith, length-append}
 use Rattle.table_model.specs.Bits.{begins}
 use Rattle.table_model.specs.Table.{Table, half, root, inherit, cut, lpm, hop_or, longest}
@@ -7,7 +7,7 @@ use Rattle.table_model.specs.Sets.{side, agg, answers}
 use Rattle.table_model.proofs.Above.{above_cut, none_above}
 use Rattle.table_model.proofs.Patch.{begins_rest, begins_trans, cut_cut}
 use Rattle.table_model.proofs.Order.{answers_outside}
-use Rattle.kept_model.specs.Stays.{Stays, is_wide, IsOff, Settled, HasMarks, IsMarked, IsMended, NoneAround}
+use Rattle.kept_model.specs.Stays.{Stays, is_wide_mark, IsOff, Settled, HasMarks, IsMarked, GetsMark, NoneAround}
 use Rattle.kept_model.proofs.Again.{agg_same, agg_again, stays_half}
 
 -- ---- what is inherited
@@ -63,17 +63,17 @@ stays_same d f K L h s = λ q. ap (entry_at q) (agg_same d f f K (agg d f L h) h
 
 -- ---- halves
 
-off_half : (b : Bool) (q : List Bool) (M : Table) → is_wide (root M) ≡ false → IsOff q (half b M) → IsOff (b ∷ q) M
+off_half : (b : Bool) (q : List Bool) (M : Table) → is_wide_mark (root M) ≡ false → IsOff q (half b M) → IsOff (b ∷ q) M
 off_half b q M n o = record { below = o.below; around = around b o.around }
   where
-    around : (c : Bool) → ((r : List Bool) → begins r q ≡ true → is_wide (entry_at r (half c M)) ≡ false) → (r : List Bool) → begins r (c ∷ q) ≡ true → is_wide (entry_at r M) ≡ false
+    around : (c : Bool) → ((r : List Bool) → begins r q ≡ true → is_wide_mark (entry_at r (half c M)) ≡ false) → (r : List Bool) → begins r (c ∷ q) ≡ true → is_wide_mark (entry_at r M) ≡ false
     around c x [] e = n
     around true x (true ∷ r) e = x r e
     around false x (false ∷ r) e = x r e
     around true x (false ∷ r) e = let z : false ≡ true = e in absurd cc
     around false x (true ∷ r) e = let z : false ≡ true = e in absurd cc
 
-pub settled_half : (d : ℕ) (f : List Bool → ℕ) (L : Table) (h : ℕ) (M : Table) (b : Bool) → Settled (suc d) f L h M → is_wide (root M) ≡ false → Settled d (side b f) (half b L) (inherit (root L) h) (half b M)
+pub settled_half : (d : ℕ) (f : List Bool → ℕ) (L : Table) (h : ℕ) (M : Table) (b : Bool) → Settled (suc d) f L h M → is_wide_mark (root M) ≡ false → Settled d (side b f) (half b L) (inherit (root L) h) (half b M)
 settled_half d f L h M b s n q k o =
     subst (λ (e : ℕ). Stays e (λ a. f (b ∷ (q ++ a))) (cut q (half b L)) (above q (half b L) (inherit (root L) h))) (one_cut d q b)
     (subst (λ (g : ℕ). Stays (suc d - length (b ∷ q)) (λ a. f (b ∷ (q ++ a))) (cut q (half b L)) g) (above_cut b q L h) (s (b ∷ q) (omega (arith, k)) (off_half b q M n o)))
@@ -87,12 +87,12 @@ settled_cut (b ∷ p) (suc d) f L h M l n s =
     (subst (λ (g : ℕ). Settled (d - length p) (λ a. f (b ∷ (p ++ a))) (cut p (half b L)) g (cut p (half b M))) (sym (above_cut b p L h))
     (settled_cut p d (side b f) (half b L) (inherit (root L) h) (half b M) (omega (arith, l)) n.1 (settled_half d f L h M b s n.0)))
 
--- a region without a mark strictly within it, which is at no wide one
-pub settled_clean : (d : ℕ) (f : List Bool → ℕ) (L : Table) (h : ℕ) (M : Table) → Settled d f L h M → is_wide (root M) ≡ false → ((b : Bool) (r : List Bool) → entry_at (b ∷ r) M ≡ None) → Stays d f L h
+-- a region without a dirty prefix strictly within it, which is at no wide one
+pub settled_clean : (d : ℕ) (f : List Bool → ℕ) (L : Table) (h : ℕ) (M : Table) → Settled d f L h M → is_wide_mark (root M) ≡ false → ((b : Bool) (r : List Bool) → entry_at (b ∷ r) M ≡ None) → Stays d f L h
 settled_clean d f L h M s w n =
     subst (λ (g : ℕ). Stays d f L g) (above_nil L h) (subst (λ (e : ℕ). Stays e f L (above [] L h)) (nothing_cut d) (s [] (omega arith) (record { below = n; around = around })))
   where
-    around : (r : List Bool) → begins r [] ≡ true → is_wide (entry_at r M) ≡ false
+    around : (r : List Bool) → begins r [] ≡ true → is_wide_mark (entry_at r M) ≡ false
     around [] e = w
     around (true ∷ r) e = let z : false ≡ true = e in absurd cc
     around (false ∷ r) e = let z : false ≡ true = e in absurd cc
@@ -141,7 +141,7 @@ strictly p q m e = by_rest (begins_rest q p e).0 (begins_rest q p e).1
     by_rest [] s = let z : true ≡ false = sym (ap (λ y. begins y q) s ∙ begins_whole q) ∙ m in absurd cc
     by_rest (b ∷ r) s = (b, r, s)
 
--- a region with p marked that is off the marks, and that p isn't within, holds nothing of p
+-- a region with p marked that is off the dirty prefixes, and that p isn't within, holds nothing of p
 off_beside : (p q : List Bool) (N : Table) → (entry_at p N ≡ None → ⊥) → IsOff q N → begins p q ≡ false → begins q p ≡ false
 off_beside p q N m o n = by_test (begins q p) refl
   where
@@ -151,8 +151,8 @@ off_beside p q N m o n = by_test (begins q p) refl
         let x = strictly p q n e in
         absurd (m (ap (λ z. entry_at z N) x.2 ∙ o.below x.0 x.1))
 
-wide_there : (o : Option ℕ) → is_wide o ≡ true → o ≡ None → ⊥
-wide_there o w e = let z : false ≡ true = ap is_wide (sym e) ∙ w in absurd cc
+wide_there : (o : Option ℕ) → is_wide_mark o ≡ true → o ≡ None → ⊥
+wide_there o w e = let z : false ≡ true = ap is_wide_mark (sym e) ∙ w in absurd cc
 
 module _ (w : ℕ) (p : List Bool) (R S T U M N : Table) (h : ℕ) (r : SameOutside p R S) (t : SameOutside p T U) (m : IsMarked p M N) where
   pub settled_after : Settled w (answers R []) T h M → Settled w (answers S []) U h N
@@ -170,7 +170,7 @@ module _ (w : ℕ) (p : List Bool) (R S T U M N : Table) (h : ℕ) (r : SameOuts
 
 -- ---- a prefix whose entries stay again
 
-module _ (w : ℕ) (p : List Bool) (R T U M N : Table) (h : ℕ) (t : SameOutside p T U) (m : IsMended p M N) (u : Stays (w - length p) (answers R p) (cut p U) (above p U h)) where
+module _ (w : ℕ) (p : List Bool) (R T U M N : Table) (h : ℕ) (t : SameOutside p T U) (m : GetsMark p M N) (u : Stays (w - length p) (answers R p) (cut p U) (above p U h)) where
   pub settled_mended : Settled w (answers R []) T h M → Settled w (answers R []) U h N
   settled_mended s q l o = by_test (begins p q) refl
     where
@@ -196,11 +196,11 @@ module _ (w : ℕ) (p : List Bool) (R T U M N : Table) (h : ℕ) (t : SameOutsid
           let n = off_beside p q N m.marked o e in
           let was : IsOff q M = record {
             below = λ b y. sym (m.others (q ++ (b ∷ y)) (λ i. differs (q ++ (b ∷ y)) q i (goes_on q (b ∷ y)) n)) ∙ o.below b y;
-            around = λ y i. ap is_wide (sym (m.others y (λ j. apart y j i e))) ∙ o.around y i;
+            around = λ y i. ap is_wide_mark (sym (m.others y (λ j. apart y j i e))) ∙ o.around y i;
           } in
           stays_beside w p q R R T U h (λ y i. refl) t e n (s q l was)
 
--- ---- the same answers, more marks
+-- ---- the same answers, more dirty prefixes
 
 pub settled_alike : (d : ℕ) (f g : List Bool → ℕ) (L : Table) (h : ℕ) (M : Table) → ((a : List Bool) → length a ≡ d → f a ≡ g a) → Settled d f L h M → Settled d g L h M
 settled_alike d f g L h M e s q n o = λ z.

@@ -13,5 +13,5 @@ abbrev pub ArePart : Table → Table → Table → Table → Type 0
 ArePart L A O N = (q : List Bool) → BothOrNeither (entry_at q L) (entry_at q A) (entry_at q O) (entry_at q N)
 
 -- a pass over a region of d more bits with the answers f has entries in no half, and L has none there
-abbrev pub IsEnd : ℕ → (List Bool → ℕ) → Table → Type 0
-IsEnd d f L = (b : Bool) (h : ℕ) → (half b L ≡ []) × (half b (agg d f L h) ≡ [])
+abbrev pub HasNoHalves : ℕ → (List Bool → ℕ) → Table → Type 0
+HasNoHalves d f L = (b : Bool) (h : ℕ) → (half b L ≡ []) × (half b (agg d f L h) ≡ [])

@@ -10,7 +10,7 @@ ghost use Rattle.table_model.specs.Address.{Prefix, same_prefix};
 ghost use Rattle.table_model.specs.Order.{prefix_cmp};
 ghost use Rattle.table_model.specs.Entries.{Entries, in_order};
 ghost use Rattle.table_model.specs.Changes.{after_changes};
-ghost use Rattle.kept_model.specs.Between.{AreEntries, place_of, hop_at, change_at, between};
+ghost use Rattle.kept_model.specs.Between.{AreEntries, place_of, entry_hop_at, change_at, between};
 
 /// The changes between two tables make the second of the first.
 pub fn sum_law()
@@ -22,7 +22,7 @@ pub fn sum_law()
 pub fn places_law()
     ensures order { (old new : Entries) → IsStrictlySortedBy prefix_cmp (map place_of (between old new)) }
     ensures each { (old new : Entries) (p : Prefix) → AreEntries old → AreEntries new →
-        filter (λ c. same_prefix p (place_of c)) (between old new) ≡ change_at p (hop_at p old) (hop_at p new) }
+        filter (λ c. same_prefix p (place_of c)) (between old new) ≡ change_at p (entry_hop_at p old) (entry_hop_at p new) }
 {}
 
 /// Where the entries that pass a test are replaced by others that do, the changes are those between these two parts alone.

@@ -8,6 +8,8 @@ mod between_laws;
 mod feed_laws;
 mod kept_laws;
 mod stays_laws;
+mod steady_feed_laws;
+mod steady_laws;
 
 ghost use Rattle.std.specs.Prelude.{◌≡◌, ◌≤◌, ◌++◌, List, Bool, false, length};
 ghost use Rattle.std.specs.List.Sorted.{IsStrictlySortedBy};
@@ -30,6 +32,10 @@ pub use kept_laws::{
     kept_alike_law, kept_numbers_law, kept_stays_law, kept_step_law, kept_sum_law, snapshot_law,
 };
 pub use stays_laws::{again_law, change_law, halves_law, mended_law, settled_law};
+pub use steady_feed_laws::{
+    event_law, meanwhile_law, plain_law, told_stays_law, told_step_law, told_sum_law,
+};
+pub use steady_laws::{order_law, quiet_law, sorted_law, steady_law};
 
 /// The changes of a repair are those within its prefix, between what was there and the aggregate.
 pub fn repair_law()

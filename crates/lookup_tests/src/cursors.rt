@@ -2,12 +2,11 @@
 
 ghost use Rattle.std.specs.Prelude.{◌≡◌};
 ghost use Rattle.poptrie_update.specs.Reads.{IsShowing};
-ghost use Rattle.poptrie_cursor.specs.Cursors.{Dues, FitsAll};
+ghost use Rattle.poptrie_update.specs.Cursors.{Dues, FitsAll};
 
 use crate::common::OneRoute;
 use fib_addr::{Addr, Hop, Prefix};
-use poptrie_cursor::{Cursors, CursorsFull, NotOpen};
-use poptrie_update::{Live, Oldest};
+use poptrie_update::{Cursors, CursorsFull, Live, NotOpen, Oldest};
 use std::alloc::{AllocError, Global};
 use std::test::Fail;
 

@@ -6,9 +6,15 @@ mod arena;
 #[cfg(test)]
 mod build;
 #[cfg(test)]
+mod choice;
+#[cfg(test)]
 mod common;
 #[cfg(test)]
 mod cursors;
+#[cfg(test)]
+mod engine;
+#[cfg(test)]
+mod keep;
 #[cfg(test)]
 mod live;
 #[cfg(test)]

@@ -6,10 +6,10 @@ use Rattle.wire_model.specs.declared.place.Place.{Place}
 use Rattle.wire_model.specs.declared.place.Place.TheVariants.{Rib, Update}
 use Rattle.wire_model.specs.Path.{Path}
 use Rattle.wire_model.specs.Attribute.{Found, nothing_found, is_wide, with_as_path, with_next_hop, with_value, attribute_at, Listed, attributes}
-use Rattle.made_input.specs.Drawn.{ipv4, hop_octets, peer_as, Offer}
-use Rattle.written_model.specs.Octets.{attribute_octets, as_path_octets, repeated_path}
-use Rattle.made_input.specs.Files.{offer_attributes}
-use Rattle.written_model.proofs.Attributes.{length-as_path, path_read, attribute_read, length-attribute, shorter}
+use Rattle.made_input.specs.Drawn.{ipv4, hop_octets, made_asn, DrawnOffer}
+use Rattle.wire_model.specs.Octets.{attribute_octets, as_path_octets, repeated_path}
+use Rattle.made_input.specs.Files.{attrs_attributes}
+use Rattle.wire_model.proofs.Attributes.{length-as_path, path_read, attribute_read, length-attribute, shorter}
 
 -- ---- the values
 
@@ -30,24 +30,24 @@ hop_value (Update four ids) path i = refl
 -- ---- the list
 
 -- what the attributes of a peer's offer give
-abbrev pub offer_list : ℕ → Offer → Listed
-offer_list peer o = record { path = repeated_path (peer_as peer) o.path; hop = Some (ipv4 (hop_octets o.hop)); reach = None; unreach = None; bad = false }
+abbrev pub attrs_list : ℕ → DrawnOffer → Listed
+attrs_list peer o = record { path = repeated_path (made_asn peer) o.path; hop = Some (ipv4 (hop_octets o.hop)); reach = None; unreach = None; bad = false }
 
-pub length-attributes : (peer : ℕ) (o : Offer) → length (offer_attributes peer o) ≡ 16 + 4 * o.path
-unfolding offer_attributes
+pub length-attributes : (peer : ℕ) (o : DrawnOffer) → length (attrs_attributes peer o) ≡ 16 + 4 * o.path
+unfolding attrs_attributes
 length-attributes peer o =
     let origin = attribute_octets 1 (0 ∷ []) in
-    let path = attribute_octets 2 (as_path_octets (peer_as peer) o.path) in
+    let path = attribute_octets 2 (as_path_octets (made_asn peer) o.path) in
     let hop = attribute_octets 3 (hop_octets o.hop) in
-    omega (arith, length-append (origin ++ path) hop, length-append origin path, length-attribute 1 (0 ∷ []), length-attribute 2 (as_path_octets (peer_as peer) o.path), length-attribute 3 (hop_octets o.hop), length-as_path (peer_as peer) o.path)
+    omega (arith, length-append (origin ++ path) hop, length-append origin path, length-attribute 1 (0 ∷ []), length-attribute 2 (as_path_octets (made_asn peer) o.path), length-attribute 3 (hop_octets o.hop), length-as_path (made_asn peer) o.path)
 
-pub attributes_read : (place : Place) → is_wide place ≡ true → (peer : ℕ) (o : Offer) → peer < 8 → attributes place (offer_attributes peer o) ≡ Ok (offer_list peer o)
-unfolding attributes offer_attributes
+pub attributes_read : (place : Place) → is_wide place ≡ true → (peer : ℕ) (o : DrawnOffer) → peer < 8 → attributes place (attrs_attributes peer o) ≡ Ok (attrs_list peer o)
+unfolding attributes attrs_attributes
 attributes_read place wide peer o known =
-    let path = repeated_path (peer_as peer) o.path in
-    let fits : peer_as peer < 2 ^ 32 = omega arith in
+    let path = repeated_path (made_asn peer) o.path in
+    let fits : made_asn peer < 2 ^ 32 = omega arith in
     let first = 0 ∷ [] in
-    let second = as_path_octets (peer_as peer) o.path in
+    let second = as_path_octets (made_asn peer) o.path in
     let third = hop_octets o.hop in
     let behind = attribute_octets 3 third ++ [] in
     let more = attribute_octets 2 second ++ behind in
@@ -57,7 +57,7 @@ attributes_read place wide peer o known =
     let total = until_end step nothing_found (attribute_octets 1 first ++ more) in
     let start = left_at_start step nothing_found (attribute_octets 1 first ++ more) in
     let one = left_after step nothing_found nothing_found (attribute_octets 1 first ++ more) more total (attribute_read place nothing_found nothing_found 1 first more refl (origin_value place nothing_found first)) (shorter 1 first more) start in
-    let two = left_after step nothing_found found more behind total (attribute_read place nothing_found found 2 second behind refl (path_value place wide (peer_as peer) o.path fits)) (shorter 2 second behind) one in
+    let two = left_after step nothing_found found more behind total (attribute_read place nothing_found found 2 second behind refl (path_value place wide (made_asn peer) o.path fits)) (shorter 2 second behind) one in
     let three = left_after step found all behind [] total (attribute_read place found all 3 third [] refl (hop_value place (Some (Some path)) o.hop)) (shorter 3 third []) two in
     let read : total ≡ Ok all = left_at_end step all [] total refl three in
     let same : attribute_octets 1 first ++ attribute_octets 2 second ++ attribute_octets 3 third ≡ attribute_octets 1 first ++ more =

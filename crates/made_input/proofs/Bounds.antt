@@ -6,16 +6,16 @@ use Rattle.table_model.specs.declared.family.Family.TheVariants.{V4}
 use Rattle.table_model.specs.Bits.{bits_of}
 use Rattle.table_model.proofs.BitLaws.{length-bits_of}
 use Rattle.made_input.specs.Draws.{draw}
-use Rattle.made_input.specs.Drawn.{Route, Offer, route, offer}
+use Rattle.made_input.specs.Drawn.{DrawnRoute, DrawnOffer, route, attrs}
 
 -- a route of IPv4 and one of the eight peers
-pub record IsRoute (r : Route) : Type 0 where
+pub record IsRoute (r : DrawnRoute) : Type 0 where
   pub family : r.prefix.family ≡ V4
   pub few : length r.prefix.bits ≤ 24
   pub peer : r.peer < 8
 
 -- a path of one to four AS numbers, one of sixteen next hops
-pub record IsOffer (o : Offer) : Type 0 where
+pub record IsOffer (o : DrawnOffer) : Type 0 where
   pub path : o.path ≤ 4
   pub some : 0 < o.path
   pub hop : o.hop < 16
@@ -34,9 +34,9 @@ route_is x = record {
   peer = mod_below (draw x 2) 8 (omega arith);
 }
 
-pub offer_is : (x : ℕ) → IsOffer (offer x)
-unfolding offer
-offer_is x = record {
+pub attrs_is : (x : ℕ) → IsOffer (attrs x)
+unfolding attrs
+attrs_is x = record {
   path = let below : draw x 0 % 4 < 4 = mod_below (draw x 0) 4 (omega arith) in omega arith;
   some = omega arith;
   hop = mod_below (draw x 1) 16 (omega arith);

@@ -7,7 +7,7 @@ use Rattle.table_model.specs.Address.{first_bits}
 use Rattle.table_model.specs.Bits.{bits_of}
 use Rattle.table_model.proofs.BitLaws.{bits_take}
 use Rattle.made_input.specs.Draws.{next_state, state_after, draw}
-use Rattle.made_input.specs.Drawn.{Route, Offer, route, offer}
+use Rattle.made_input.specs.Drawn.{DrawnRoute, DrawnOffer, route, attrs}
 
 -- the product and the sum, each kept in 64 bits
 pub stepped : (x : ℕ) → (x * 6364136223846793005 % 2 ^ 64 + 1442695040888963407) % 2 ^ 64 ≡ state_after x 1
@@ -38,9 +38,9 @@ cleared_bits w n a h =
     ∙ (ap (bits_of n) (shl-shr (a / 2 ^ (w - n)) (w - n)) ∙ sym (bits_take w n a h))
 
 -- two draws are an offer
-pub offer_drawn : (x y d e : ℕ) → y ≡ state_after x 1 → d ≡ draw x 0 → e ≡ draw y 0 → (let o : Offer = record { path = 1 + d % 4; hop = e % 16 } in o ≡ offer x)
-unfolding offer
-offer_drawn x y d e first p q =
+pub attrs_drawn : (x y d e : ℕ) → y ≡ state_after x 1 → d ≡ draw x 0 → e ≡ draw y 0 → (let o : DrawnOffer = record { path = 1 + d % 4; hop = e % 16 } in o ≡ attrs x)
+unfolding attrs
+attrs_drawn x y d e first p q =
     let second : e ≡ draw x 1 = q ∙ (ap (λ (s : ℕ). draw s 0) first ∙ draw-add x 1 0) in
     rw (p, second) refl
 
@@ -72,7 +72,7 @@ bits_cleared s e =
 
 -- three draws are a route
 pub route_drawn : (x y z d e f : ℕ) → y ≡ state_after x 1 → z ≡ state_after y 1 → d ≡ draw x 0 → e ≡ draw y 0 → f ≡ draw z 0
-    → (let r : Route = record { prefix = first_bits (8 + d % 17) (record { family = V4; bits = bits_of 32 ((e % 2 ^ 24 * 256 / 2 ^ (32 - (8 + d % 17)) * 2 ^ (32 - (8 + d % 17))) % 2 ^ 32) }); peer = f % 8 } in r ≡ route x)
+    → (let r : DrawnRoute = record { prefix = first_bits (8 + d % 17) (record { family = V4; bits = bits_of 32 ((e % 2 ^ 24 * 256 / 2 ^ (32 - (8 + d % 17)) * 2 ^ (32 - (8 + d % 17))) % 2 ^ 32) }); peer = f % 8 } in r ≡ route x)
 unfolding route
 route_drawn x y z d e f first second p q r =
     let both : z ≡ state_after x 2 = second ∙ (ap (λ (s : ℕ). state_after s 1) first ∙ state-add x 1 1) in

@@ -10,12 +10,12 @@ use Rattle.wire_model.specs.declared.rule.Rule.{Rule}
 use Rattle.wire_model.specs.declared.rule.Rule.TheVariants.{PeerTableForm, RibForm}
 use Rattle.wire_model.specs.declared.place.Place.TheVariants.{Rib}
 use Rattle.wire_model.specs.Wire.{address_at}
-use Rattle.reading_model.specs.Rib.{peer_at, peer_table, rib_entry_at, rib}
-use Rattle.made_input.specs.Drawn.{ipv4, peer_octets, peer_as, made_peer, made_peers, Route, Offer, announcement}
-use Rattle.written_model.specs.Octets.{number_octets, prefix_octets}
-use Rattle.made_input.specs.Files.{peer_entry, peer_table_body, offer_attributes, rib_body}
-use Rattle.written_model.proofs.Fields.{length-number_octets, octets_read, octets_all, number_read, nothing_read, no_octets_read}
-use Rattle.written_model.proofs.Prefixes.{v4_read}
+use Rattle.wire_model.specs.Rib.{peer_at, peer_table, rib_entry_at, rib}
+use Rattle.made_input.specs.Drawn.{ipv4, peer_octets, made_asn, made_peer, made_peers, DrawnRoute, DrawnOffer, announcement}
+use Rattle.wire_model.specs.Octets.{number_octets, prefix_octets}
+use Rattle.made_input.specs.Files.{peer_entry, peer_table_body, attrs_attributes, rib_body}
+use Rattle.wire_model.proofs.Fields.{length-number_octets, octets_read, octets_all, number_read, nothing_read, no_octets_read}
+use Rattle.wire_model.proofs.Prefixes.{v4_read}
 use Rattle.made_input.proofs.AttributeReading.{length-attributes, attributes_read}
 use Rattle.made_input.proofs.Bounds.{IsRoute, IsOffer}
 
@@ -28,8 +28,8 @@ address_read cut xs rest e = rw (octets_read cut 4 xs rest e) refl
 peer_read : (i : ℕ) (rest : List ℕ) → i < 8 → peer_at (peer_entry i ++ rest) ≡ Ok (made_peer i, rest)
 unfolding peer_at peer_entry made_peer
 peer_read i rest h =
-    let behind = number_octets 4 (peer_as i) ++ rest in
-    rw (octets_read PeerTableForm 4 (peer_octets i) (peer_octets i ++ behind) refl, address_read PeerTableForm (peer_octets i) behind refl, number_read PeerTableForm 4 (peer_as i) rest (omega arith)) refl
+    let behind = number_octets 4 (made_asn i) ++ rest in
+    rw (octets_read PeerTableForm 4 (peer_octets i) (peer_octets i ++ behind) refl, address_read PeerTableForm (peer_octets i) behind refl, number_read PeerTableForm 4 (made_asn i) rest (omega arith)) refl
 
 peers_read : (a n : ℕ) (front : List Peer) (rest : List ℕ) → a + n ≤ 8 → times (one_more peer_at) n front (flat_map peer_entry (range_with_len a n) ++ rest) ≡ Ok (front ++ map made_peer (range_with_len a n), rest)
 unfolding times
@@ -62,24 +62,24 @@ peer_found (suc (suc (suc (suc (suc (suc (suc (suc i)))))))) h = absurd (omega a
 
 -- ---- an entry
 
-abbrev entry_octets : Route → Offer → List ℕ
-entry_octets r o = number_octets 2 r.peer ++ (number_octets 4 0 ++ (number_octets 2 (length (offer_attributes r.peer o)) ++ offer_attributes r.peer o))
+abbrev entry_octets : DrawnRoute → DrawnOffer → List ℕ
+entry_octets r o = number_octets 2 r.peer ++ (number_octets 4 0 ++ (number_octets 2 (length (attrs_attributes r.peer o)) ++ attrs_attributes r.peer o))
 
-entry_read : (r : Route) (o : Offer) → IsRoute r → IsOffer o → rib_entry_at made_peers false V4 r.prefix (entry_octets r o) ≡ Ok (announcement r o, [])
+entry_read : (r : DrawnRoute) (o : DrawnOffer) → IsRoute r → IsOffer o → rib_entry_at made_peers false V4 r.prefix (entry_octets r o) ≡ Ok (announcement r o, [])
 unfolding rib_entry_at
-entry_read r o route offer =
+entry_read r o route attrs =
     let time = number_octets 4 0 in
-    let list = offer_attributes r.peer o in
+    let list = attrs_attributes r.peer o in
     let area = number_octets 2 (length list) ++ list in
     let peer : r.peer < 8 = route.peer in
-    let path : o.path ≤ 4 = offer.path in
-    let some : (o.path == 0) ≡ false = ne_eqb o.path 0 (omega (arith, offer.some)) in
+    let path : o.path ≤ 4 = attrs.path in
+    let some : (o.path == 0) ≡ false = ne_eqb o.path 0 (omega (arith, attrs.some)) in
     rw (number_read RibForm 2 r.peer (time ++ area) (omega arith), peer_found r.peer peer, octets_read RibForm 4 time area (length-number_octets 4 0), nothing_read RibForm area, number_read RibForm 2 (length list) list (omega (arith, length-attributes r.peer o)), octets_all RibForm (length list) list refl, attributes_read (Rib V4) refl r.peer o peer, some) refl
 
-pub rib_read : (i : ℕ) (r : Route) (o : Offer) → IsRoute r → IsOffer o → rib made_peers false V4 (rib_body i r o) ≡ Ok (announcement r o ∷ [])
+pub rib_read : (i : ℕ) (r : DrawnRoute) (o : DrawnOffer) → IsRoute r → IsOffer o → rib made_peers false V4 (rib_body i r o) ≡ Ok (announcement r o ∷ [])
 unfolding rib rib_body times
-rib_read i r o route offer =
+rib_read i r o route attrs =
     let sequence = number_octets 4 i in
     let behind = number_octets 2 1 ++ entry_octets r o in
-    let same : sequence ++ prefix_octets r.prefix ++ number_octets 2 1 ++ number_octets 2 r.peer ++ number_octets 4 0 ++ (number_octets 2 (length (offer_attributes r.peer o)) ++ offer_attributes r.peer o) ≡ sequence ++ (prefix_octets r.prefix ++ behind) = simp append_assoc refl in
-    rw (same, octets_read RibForm 4 sequence (prefix_octets r.prefix ++ behind) (length-number_octets 4 i), v4_read RibForm r.prefix behind route.family route.few, number_read RibForm 2 1 (entry_octets r o) (omega arith), entry_read r o route offer) refl
+    let same : sequence ++ prefix_octets r.prefix ++ number_octets 2 1 ++ number_octets 2 r.peer ++ number_octets 4 0 ++ (number_octets 2 (length (attrs_attributes r.peer o)) ++ attrs_attributes r.peer o) ≡ sequence ++ (prefix_octets r.prefix ++ behind) = simp append_assoc refl in
+    rw (same, octets_read RibForm 4 sequence (prefix_octets r.prefix ++ behind) (length-number_octets 4 i), v4_read RibForm r.prefix behind route.family route.few, number_read RibForm 2 1 (entry_octets r o) (omega arith), entry_read r o route attrs) refl

@@ -12,19 +12,19 @@ use Rattle.wire_model.specs.declared.rule.Rule.{Rule}
 use Rattle.wire_model.specs.declared.rule.Rule.TheVariants.{SessionForm, MessageLength, UpdateLengths}
 use Rattle.wire_model.specs.declared.place.Place.TheVariants.{Update}
 use Rattle.wire_model.specs.Wire.{nlris}
-use Rattle.wire_model.specs.Attribute.{nothing_found, listed, attributes}
-use Rattle.reading_model.specs.Update.{Said, said, update, message, session_behind, session_in, bgp4mp}
-use Rattle.made_input.specs.Drawn.{peer_octets, peer_as, made_peer, Route, Offer, announcement, withdrawal}
-use Rattle.written_model.specs.Octets.{number_octets, prefix_octets}
-use Rattle.made_input.specs.Files.{offer_attributes, update_body, message_octets, session_body}
-use Rattle.written_model.proofs.Fields.{length-number_octets, octets_read, number_read, no_octets_read}
-use Rattle.written_model.proofs.Prefixes.{length-prefix, nlri_read}
+use Rattle.wire_model.specs.Attribute.{nothing_found, listed_from, attributes}
+use Rattle.wire_model.specs.Update.{Said, said, update, message, session_behind, session_in, bgp4mp}
+use Rattle.made_input.specs.Drawn.{peer_octets, made_asn, made_peer, DrawnRoute, DrawnOffer, announcement, withdrawal}
+use Rattle.wire_model.specs.Octets.{number_octets, prefix_octets}
+use Rattle.made_input.specs.Files.{attrs_attributes, update_body, message_octets, session_body}
+use Rattle.wire_model.proofs.Fields.{length-number_octets, octets_read, number_read, no_octets_read}
+use Rattle.wire_model.proofs.Prefixes.{length-prefix, nlri_read}
 use Rattle.made_input.proofs.AttributeReading.{length-attributes, attributes_read}
 use Rattle.made_input.proofs.Bounds.{IsRoute, IsOffer}
 use Rattle.made_input.proofs.DumpReading.{address_read}
 
 -- what an update says
-abbrev pub told_of : Bool → Route → Offer → Event
+abbrev pub told_of : Bool → DrawnRoute → DrawnOffer → Event
 told_of gone r o = if gone then withdrawal r else announcement r o
 
 -- lists that are empty
@@ -32,7 +32,7 @@ no_nlri : (cut : Rule) → nlris cut false V4 [] ≡ Ok []
 unfolding nlris steps
 no_nlri cut = refl
 
-no_attributes : attributes (Update true false) [] ≡ Ok (listed nothing_found)
+no_attributes : attributes (Update true false) [] ≡ Ok (listed_from nothing_found)
 unfolding attributes steps
 no_attributes = refl
 
@@ -43,21 +43,21 @@ last_number fault k n h = ap (number_at fault k) (sym (append-nil (number_octets
 prefix_below : (p : Prefix) → p.family ≡ V4 → length p.bits ≤ 24 → length (prefix_octets p) ≤ 4
 prefix_below p v4 few = omega (arith, length-prefix p v4 few)
 
-update_read : (gone : Bool) (r : Route) (o : Offer) → IsRoute r → IsOffer o → update true false (made_peer r.peer) (update_body gone r o) ≡ Ok (said (told_of gone r o ∷ []))
+update_read : (gone : Bool) (r : DrawnRoute) (o : DrawnOffer) → IsRoute r → IsOffer o → update true false (made_peer r.peer) (update_body gone r o) ≡ Ok (said (told_of gone r o ∷ []))
 unfolding update update_body
-update_read true r o route offer =
+update_read true r o route attrs =
     let prefix = prefix_octets r.prefix in
     let none = number_octets 2 0 in
     let same : (number_octets 2 (length prefix) ++ prefix) ++ none ≡ number_octets 2 (length prefix) ++ (prefix ++ none) = append_assoc (number_octets 2 (length prefix)) prefix none in
     let short : length prefix ≤ 4 = prefix_below r.prefix route.family route.few in
     rw (same, number_read UpdateLengths 2 (length prefix) (prefix ++ none) (omega arith), octets_read UpdateLengths (length prefix) prefix none refl, nlri_read UpdateLengths r.prefix route.family route.few, last_number UpdateLengths 2 0 (omega arith), no_attributes, no_nlri UpdateLengths) refl
-update_read false r o route offer =
+update_read false r o route attrs =
     let prefix = prefix_octets r.prefix in
     let none = number_octets 2 0 in
-    let list = offer_attributes r.peer o in
+    let list = attrs_attributes r.peer o in
     let same : none ++ (number_octets 2 (length list) ++ list) ++ prefix ≡ none ++ (number_octets 2 (length list) ++ (list ++ prefix)) = simp append_assoc refl in
-    let path : o.path ≤ 4 = offer.path in
-    let some : (o.path == 0) ≡ false = ne_eqb o.path 0 (omega (arith, offer.some)) in
+    let path : o.path ≤ 4 = attrs.path in
+    let some : (o.path == 0) ≡ false = ne_eqb o.path 0 (omega (arith, attrs.some)) in
     rw (same, number_read UpdateLengths 2 0 (number_octets 2 (length list) ++ (list ++ prefix)) (omega arith), no_octets_read UpdateLengths (number_octets 2 (length list) ++ (list ++ prefix)), no_nlri UpdateLengths, number_read UpdateLengths 2 (length list) (list ++ prefix) (omega (arith, length-attributes r.peer o)), octets_read UpdateLengths (length list) list prefix refl, attributes_read (Update true false) refl r.peer o route.peer, some, nlri_read UpdateLengths r.prefix route.family route.few) refl
 
 -- ---- the message
@@ -91,39 +91,39 @@ session_read peer octets words h e =
     let here : List ℕ = 192 ∷ 0 ∷ 2 ∷ 254 ∷ [] in
     let addresses = peer_octets peer ++ (here ++ octets) in
     let behind = number_octets 2 1 ++ addresses in
-    let same : number_octets 4 (peer_as peer) ++ local ++ interface ++ number_octets 2 1 ++ peer_octets peer ++ here ++ octets ≡ number_octets 4 (peer_as peer) ++ (local ++ (interface ++ behind)) = simp append_assoc refl in
-    rw (same, no_octets_read SessionForm (number_octets 4 (peer_as peer) ++ (local ++ (interface ++ behind))), number_read SessionForm 4 (peer_as peer) (local ++ (interface ++ behind)) (omega arith), octets_read SessionForm 4 local (interface ++ behind) (length-number_octets 4 64511), octets_read SessionForm 2 interface behind (length-number_octets 2 0), number_read SessionForm 2 1 addresses (omega arith), address_read SessionForm (peer_octets peer) (here ++ octets) refl, address_read SessionForm here octets refl, e) refl
+    let same : number_octets 4 (made_asn peer) ++ local ++ interface ++ number_octets 2 1 ++ peer_octets peer ++ here ++ octets ≡ number_octets 4 (made_asn peer) ++ (local ++ (interface ++ behind)) = simp append_assoc refl in
+    rw (same, no_octets_read SessionForm (number_octets 4 (made_asn peer) ++ (local ++ (interface ++ behind))), number_read SessionForm 4 (made_asn peer) (local ++ (interface ++ behind)) (omega arith), octets_read SessionForm 4 local (interface ++ behind) (length-number_octets 4 64511), octets_read SessionForm 2 interface behind (length-number_octets 2 0), number_read SessionForm 2 1 addresses (omega arith), address_read SessionForm (peer_octets peer) (here ++ octets) refl, address_read SessionForm here octets refl, e) refl
 
 -- ---- lengths
 
-pub length-update : (gone : Bool) (r : Route) (o : Offer) → IsRoute r → IsOffer o → length (update_body gone r o) ≤ 40
+pub length-update : (gone : Bool) (r : DrawnRoute) (o : DrawnOffer) → IsRoute r → IsOffer o → length (update_body gone r o) ≤ 40
 unfolding update_body
-length-update true r o route offer =
+length-update true r o route attrs =
     let prefix = prefix_octets r.prefix in
     let len = number_octets 2 (length prefix) in
     omega (arith, prefix_below r.prefix route.family route.few, length-append (len ++ prefix) (number_octets 2 0), length-append len prefix, length-number_octets 2 (length prefix), length-number_octets 2 0)
-length-update false r o route offer =
+length-update false r o route attrs =
     let prefix = prefix_octets r.prefix in
-    let list = offer_attributes r.peer o in
+    let list = attrs_attributes r.peer o in
     let len = number_octets 2 (length list) in
     let none = number_octets 2 0 in
-    let path : o.path ≤ 4 = offer.path in
+    let path : o.path ≤ 4 = attrs.path in
     omega (arith, prefix_below r.prefix route.family route.few, length-append (none ++ (len ++ list)) prefix, length-append none (len ++ list), length-append len list, length-number_octets 2 (length list), length-number_octets 2 0, length-attributes r.peer o)
 
 pub length-session : (peer : ℕ) (octets : List ℕ) → length (session_body peer octets) ≡ 20 + length octets
 unfolding session_body
 length-session peer octets =
-    let asn = number_octets 4 (peer_as peer) in
+    let asn = number_octets 4 (made_asn peer) in
     let local = number_octets 4 64511 in
     let interface = number_octets 2 0 in
     let family = number_octets 2 1 in
     let here : List ℕ = 192 ∷ 0 ∷ 2 ∷ 254 ∷ [] in
-    omega (arith, length-append (asn ++ local ++ interface ++ family ++ peer_octets peer ++ here) octets, length-append (asn ++ local ++ interface ++ family ++ peer_octets peer) here, length-append (asn ++ local ++ interface ++ family) (peer_octets peer), length-append (asn ++ local ++ interface) family, length-append (asn ++ local) interface, length-append asn local, length-number_octets 4 (peer_as peer), length-number_octets 4 64511, length-number_octets 2 0, length-number_octets 2 1)
+    omega (arith, length-append (asn ++ local ++ interface ++ family ++ peer_octets peer ++ here) octets, length-append (asn ++ local ++ interface ++ family ++ peer_octets peer) here, length-append (asn ++ local ++ interface ++ family) (peer_octets peer), length-append (asn ++ local ++ interface) family, length-append (asn ++ local) interface, length-append asn local, length-number_octets 4 (made_asn peer), length-number_octets 4 64511, length-number_octets 2 0, length-number_octets 2 1)
 
 -- the record of an update says its event
-pub update_told : (gone : Bool) (r : Route) (o : Offer) → IsRoute r → IsOffer o → bgp4mp 4 false (session_body r.peer (message_octets (update_body gone r o))) ≡ Ok (Some (said (told_of gone r o ∷ [])))
-update_told gone r o route offer =
+pub update_told : (gone : Bool) (r : DrawnRoute) (o : DrawnOffer) → IsRoute r → IsOffer o → bgp4mp 4 false (session_body r.peer (message_octets (update_body gone r o))) ≡ Ok (Some (said (told_of gone r o ∷ [])))
+update_told gone r o route attrs =
     let body = update_body gone r o in
-    let few : length body ≤ 40 = length-update gone r o route offer in
+    let few : length body ≤ 40 = length-update gone r o route attrs in
     session_read r.peer (message_octets body) (said (told_of gone r o ∷ [])) route.peer
-    (message_read (made_peer r.peer) body (said (told_of gone r o ∷ [])) (omega arith) (update_read gone r o route offer))
+    (message_read (made_peer r.peer) body (said (told_of gone r o ∷ [])) (omega arith) (update_read gone r o route attrs))

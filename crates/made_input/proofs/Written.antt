@@ -10,8 +10,8 @@ use Rattle.table_model.specs.Bits.{bits_of, value_of}
 use Rattle.table_model.specs.Order.{filled}
 use Rattle.table_model.proofs.BitLaws.{length-bits_of, value-bits_of, value-append, value-zeros, bits_take}
 use Rattle.wire_model.specs.Wire.{octets_for}
-use Rattle.written_model.specs.Octets.{number_octets, prefix_octets, attribute_octets, as_path_octets}
-use Rattle.written_model.proofs.Attributes.{length-as_path}
+use Rattle.wire_model.specs.Octets.{number_octets, prefix_octets, attribute_octets, as_path_octets}
+use Rattle.wire_model.proofs.Attributes.{length-as_path}
 
 -- ---- a path
 

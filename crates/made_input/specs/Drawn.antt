@@ -18,12 +18,12 @@ abbrev pub peer_octets : ℕ → List ℕ
 peer_octets i = 192 ∷ 0 ∷ 2 ∷ (1 + i) ∷ []
 
 -- AS 64500 to 64507, the peers' AS numbers
-abbrev pub peer_as : ℕ → ℕ
-peer_as i = 64500 + i
+abbrev pub made_asn : ℕ → ℕ
+made_asn i = 64500 + i
 
 -- peer i, from 0
 unfoldable pub made_peer : ℕ → Peer
-made_peer i = record { addr = ipv4 (peer_octets i); asn = peer_as i }
+made_peer i = record { addr = ipv4 (peer_octets i); asn = made_asn i }
 
 -- the eight peers
 abbrev pub made_peers : List Peer
@@ -36,25 +36,25 @@ hop_octets i = 198 ∷ 51 ∷ 100 ∷ (1 + i) ∷ []
 -- ---- what a state leads to
 
 -- which prefix of which peer
-pub record Route : Type 0 where
+pub record DrawnRoute : Type 0 where
   pub prefix : Prefix
   pub peer : ℕ
 
 -- the length of a path, and a next hop by its number from 0
-pub record Offer : Type 0 where
+pub record DrawnOffer : Type 0 where
   pub path : ℕ
   pub hop : ℕ
 
 -- Three draws: how many bits, 8 to 24; the address that they are the first bits of, a multiple of 256; one of the eight peers.
-unfoldable pub route : ℕ → Route
+unfoldable pub route : ℕ → DrawnRoute
 route x = record {
   prefix = first_bits (8 + draw x 0 % 17) (record { family = V4; bits = bits_of 32 (draw x 1 % 2 ^ 24 * 256) });
   peer = draw x 2 % 8;
 }
 
 -- two draws: a path of 1 to 4, one of sixteen next hops
-unfoldable pub offer : ℕ → Offer
-offer x = record { path = 1 + draw x 0 % 4; hop = draw x 1 % 16 }
+unfoldable pub attrs : ℕ → DrawnOffer
+attrs x = record { path = 1 + draw x 0 % 4; hop = draw x 1 % 16 }
 
 -- ---- the entries of the dump, five draws each
 
@@ -63,12 +63,12 @@ abbrev pub entry_state : ℕ → ℕ → ℕ
 entry_state seed i = state_after seed (5 * i)
 
 -- its route
-abbrev pub entry_route : ℕ → ℕ → Route
+abbrev pub entry_route : ℕ → ℕ → DrawnRoute
 entry_route seed i = route (entry_state seed i)
 
 -- what it offers, of the two draws behind the route's
-abbrev pub entry_offer : ℕ → ℕ → Offer
-entry_offer seed i = offer (state_after (entry_state seed i) 3)
+abbrev pub entry_attrs : ℕ → ℕ → DrawnOffer
+entry_attrs seed i = attrs (state_after (entry_state seed i) 3)
 
 -- ---- the updates behind n entries, four draws each
 
@@ -77,7 +77,7 @@ abbrev pub update_state : ℕ → ℕ → ℕ → ℕ
 update_state seed n j = state_after seed (5 * n + 4 * j)
 
 -- it is of the route of an entry drawn among the n
-abbrev pub update_route : ℕ → ℕ → ℕ → Route
+abbrev pub update_route : ℕ → ℕ → ℕ → DrawnRoute
 update_route seed n j = entry_route seed (draw (update_state seed n j) 0 % n)
 
 -- one of four kinds withdraws it
@@ -85,27 +85,27 @@ abbrev pub is_withdrawal : ℕ → ℕ → ℕ → Bool
 is_withdrawal seed n j = draw (update_state seed n j) 1 % 4 == 0
 
 -- the others announce it with this offer
-abbrev pub update_offer : ℕ → ℕ → ℕ → Offer
-update_offer seed n j = offer (state_after (update_state seed n j) 2)
+abbrev pub update_attrs : ℕ → ℕ → ℕ → DrawnOffer
+update_attrs seed n j = attrs (state_after (update_state seed n j) 2)
 
 -- ---- the events
 
 -- routes come without path identifiers
-abbrev pub via_of : ℕ → Via
-via_of i = record { peer = made_peer i; id = 0 }
+abbrev pub made_via : ℕ → Via
+made_via i = record { peer = made_peer i; id = 0 }
 
 -- the peer announces the route with this path and next hop; it originates in the peer's AS
-abbrev pub announcement : Route → Offer → Event
-announcement r o = Announce (via_of r.peer) r.prefix o.path (ipv4 (hop_octets o.hop)) (Some (peer_as r.peer))
+abbrev pub announcement : DrawnRoute → DrawnOffer → Event
+announcement r o = Announce (made_via r.peer) r.prefix o.path (ipv4 (hop_octets o.hop)) (Some (made_asn r.peer))
 
 -- the peer withdraws the route
-abbrev pub withdrawal : Route → Event
-withdrawal r = Withdraw (via_of r.peer) r.prefix
+abbrev pub withdrawal : DrawnRoute → Event
+withdrawal r = Withdraw (made_via r.peer) r.prefix
 
 -- n routes are announced
 abbrev pub dump_events : ℕ → ℕ → List Event
-dump_events seed n = map (λ i. announcement (entry_route seed i) (entry_offer seed i)) (range_with_len 0 n)
+dump_events seed n = map (λ i. announcement (entry_route seed i) (entry_attrs seed i)) (range_with_len 0 n)
 
 -- half as many are withdrawn or announced again
 abbrev pub update_events : ℕ → ℕ → List Event
-update_events seed n = map (λ j. if is_withdrawal seed n j then withdrawal (update_route seed n j) else announcement (update_route seed n j) (update_offer seed n j)) (range_with_len 0 (n / 2))
+update_events seed n = map (λ j. if is_withdrawal seed n j then withdrawal (update_route seed n j) else announcement (update_route seed n j) (update_attrs seed n j)) (range_with_len 0 (n / 2))

@@ -2,13 +2,13 @@
 
 ghost use Rattle.std.specs.Prelude.{◌≡◌, ◌<◌, ◌≤◌, ◌+◌, ◌++◌, ◌∷◌, [], length, OnOk};
 ghost use Rattle.made_input.specs.Drawn as drawn;
-ghost use Rattle.written_model.specs.Octets.{attribute_octets, as_path_octets};
-ghost use Rattle.made_input.specs.Files.{offer_attributes};
-ghost use Rattle.made_input.specs.Views.{offer_as};
+ghost use Rattle.wire_model.specs.Octets.{attribute_octets, as_path_octets};
+ghost use Rattle.made_input.specs.Files.{attrs_attributes};
+ghost use Rattle.made_input.specs.Views.{drawn_attrs_as};
 
-use crate::route::Offer;
-use octet_put::put_sequence;
+use crate::route::PathAttrs;
 use std::alloc::AllocError;
+use wire_model::put_sequence;
 
 /// The flags of a well-known attribute: it is transitive (RFC 4271, section 4.3).
 const WELL_KNOWN: u8 = 0x40;
@@ -22,7 +22,7 @@ const NEXT_HOP: u8 = 3;
 
 /// The AS of a peer, one of those for documentation (RFC 5398, section 4).
 pub fn peer_as(peer: u8) -> u32
-    ensures { result ≡ drawn.peer_as peer }
+    ensures { result ≡ drawn.made_asn peer }
 {
     64_500 + u32::from(peer)
 }
@@ -63,11 +63,11 @@ fn put_as_path(asn: u32, count: u8, out: &mut Vec<u8>) -> Result<(), AllocError>
 }
 
 /// Puts the attributes of an offer by a peer: ORIGIN, which is IGP, AS_PATH, NEXT_HOP.
-pub fn put_attributes(peer: u8, offer: &Offer, out: &mut Vec<u8>) -> Result<(), AllocError>
+pub fn put_attributes(peer: u8, attrs: &PathAttrs, out: &mut Vec<u8>) -> Result<(), AllocError>
     ensures { OnOk result (out.new.items ≡ out.old.items
-        ++ offer_attributes peer (offer_as offer.now)) }
+        ++ attrs_attributes peer (drawn_attrs_as attrs.now)) }
 {
     put_attribute(ORIGIN, &[0], out)?;
-    put_as_path(peer_as(peer), offer.path, out)?;
-    put_attribute(NEXT_HOP, &hop_octets(offer.hop), out)
+    put_as_path(peer_as(peer), attrs.path, out)?;
+    put_attribute(NEXT_HOP, &hop_octets(attrs.hop), out)
 }

@@ -5,15 +5,15 @@ ghost use Rattle.std.specs.List.{range_with_len};
 ghost use Rattle.made_input.specs.Draws.{state_after};
 ghost use Rattle.made_input.specs.Drawn.{route, entry_route};
 ghost use Rattle.made_input.specs.Files.{peer_entry, peer_table_body, rib_body, dump_octets};
-ghost use Rattle.made_input.specs.Views.{route_as, offer_as, entry_record};
+ghost use Rattle.made_input.specs.Views.{drawn_route_as, drawn_attrs_as, entry_record};
 
 use crate::attribute::{peer_as, peer_octets, put_attributes};
 use crate::generator::Generator;
 use crate::prefix::put_prefix;
-use crate::route::{Offer, Route};
+use crate::route::{PathAttrs, Route};
 use crate::scratch::Scratch;
-use octet_put::{put_behind_length, put_record, put_u16, put_u32};
 use std::alloc::{AllocError, Global};
+use wire_model::{put_behind_length, put_record, put_u16, put_u32};
 
 /// The type of the dump's records, TABLE_DUMP_V2.
 const TABLE_DUMP_V2: u16 = 13;
@@ -60,15 +60,15 @@ fn put_peers(out: &mut Vec<u8>) -> Result<(), AllocError>
 fn put_rib(
     number: u32,
     route: &Route,
-    offer: &Offer,
+    attrs: &PathAttrs,
     part: &mut Vec<u8>,
     out: &mut Vec<u8>,
 ) -> Result<(), AllocError>
     ensures { OnOk result (out.new.items ≡ out.old.items
-        ++ rib_body number (route_as route.now) (offer_as offer.now)) }
+        ++ rib_body number (drawn_route_as route.now) (drawn_attrs_as attrs.now)) }
 {
     part.clear();
-    put_attributes(route.peer, offer, part)?;
+    put_attributes(route.peer, attrs, part)?;
     put_u32(number, out)?;
     put_prefix(route, out)?;
     put_u16(1, out)?;
@@ -84,15 +84,15 @@ fn put_entry(
     scratch: &mut Scratch,
     out: &mut Vec<u8>,
 ) -> Result<Route, AllocError>
-    ensures route { IfOk result (λ r. route_as r ≡ route from.old.state) }
+    ensures route { IfOk result (λ r. drawn_route_as r ≡ route from.old.state) }
     ensures put { OnOk result (out.new.items ≡ out.old.items
         ++ entry_record number from.old.state) }
     ensures state { OnOk result (from.new.state ≡ state_after from.old.state 5) }
 {
     let route = Route::draw(from);
-    let offer = Offer::draw(from);
+    let attrs = PathAttrs::draw(from);
     scratch.body.clear();
-    put_rib(number, &route, &offer, &mut scratch.part, &mut scratch.body)?;
+    put_rib(number, &route, &attrs, &mut scratch.part, &mut scratch.body)?;
     put_record(TABLE_DUMP_V2, RIB_IPV4_UNICAST, &scratch.body, out)?;
     Ok(route)
 }
@@ -105,7 +105,7 @@ pub fn make_dump(
 ) -> Result<(Vec<u8>, Vec<Route>), AllocError>
     requires { count ≤ 200000 }
     ensures dump { IfOk result (λ made. made.0.items ≡ dump_octets from.old.state count) }
-    ensures routes { IfOk result (λ made. map route_as made.1.items
+    ensures routes { IfOk result (λ made. map drawn_route_as made.1.items
         ≡ map (entry_route from.old.state) (range_with_len 0 count)) }
     ensures state { OnOk result (from.new.state ≡ state_after from.old.state (5 * count)) }
 {

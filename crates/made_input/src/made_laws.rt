@@ -5,7 +5,7 @@
 ghost use Rattle.std.specs.Prelude.{◌≡◌, ◌+◌, ◌*◌, ◌/◌, ◌≤◌, ◌^◌, ℕ, length, Some, None, Ok};
 ghost use Rattle.std.specs.List.{AllByRecursion};
 ghost use Rattle.route_model.specs.Events.{IsEvent};
-ghost use Rattle.reading_model.specs.Input.{input};
+ghost use Rattle.wire_model.specs.Input.{input};
 ghost use Rattle.made_input.specs.Drawn.{made_peers, dump_events, update_events};
 ghost use Rattle.made_input.specs.Files.{dump_octets, updates_octets};
 

@@ -21,7 +21,7 @@ pub struct Route {
 
 /// The length of a path and a next hop.
 #[derive(Clone, Copy)]
-pub struct Offer {
+pub struct PathAttrs {
     /// How many AS numbers the path has.
     pub path: u8,
     /// The next hop's number, from 0.
@@ -34,11 +34,11 @@ pub struct Offer {
 impl Route {
     ghost use Rattle.made_input.specs.Draws.{state_after};
     ghost use Rattle.made_input.specs.Drawn as drawn;
-    ghost use Rattle.made_input.specs.Views.{route_as};
+    ghost use Rattle.made_input.specs.Views.{drawn_route_as};
 
     /// The route of the next three draws: the prefix's length, its address, the peer.
     pub fn draw(from: &mut Generator) -> Route
-        ensures value { route_as result ≡ drawn.route from.old.state }
+        ensures value { drawn_route_as result ≡ drawn.route from.old.state }
         ensures state { from.new.state ≡ state_after from.old.state 3 }
     {
         let len = 8 + (from.draw() % 17) as u8;
@@ -53,18 +53,18 @@ impl Route {
     }
 }
 
-impl Offer {
+impl PathAttrs {
     ghost use Rattle.made_input.specs.Draws.{state_after};
     ghost use Rattle.made_input.specs.Drawn as drawn;
-    ghost use Rattle.made_input.specs.Views.{offer_as};
+    ghost use Rattle.made_input.specs.Views.{drawn_attrs_as};
 
     /// The offer of the next two draws: the path's length, the next hop.
-    pub fn draw(from: &mut Generator) -> Offer
-        ensures value { offer_as result ≡ drawn.offer from.old.state }
+    pub fn draw(from: &mut Generator) -> PathAttrs
+        ensures value { drawn_attrs_as result ≡ drawn.attrs from.old.state }
         ensures state { from.new.state ≡ state_after from.old.state 2 }
     {
         let path = 1 + (from.draw() % 4) as u8;
         let hop = (from.draw() % 16) as u8;
-        Offer { path, hop }
+        PathAttrs { path, hop }
     }
 }

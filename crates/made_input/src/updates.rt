@@ -5,15 +5,15 @@ ghost use Rattle.std.specs.List.{range_with_len};
 ghost use Rattle.made_input.specs.Draws.{state_after};
 ghost use Rattle.made_input.specs.Drawn.{entry_route};
 ghost use Rattle.made_input.specs.Files.{message_octets, session_body, update_body, updates_octets};
-ghost use Rattle.made_input.specs.Views.{route_as, offer_as, next_update};
+ghost use Rattle.made_input.specs.Views.{drawn_route_as, drawn_attrs_as, next_update};
 
 use crate::attribute::{peer_as, peer_octets, put_attributes};
 use crate::generator::Generator;
 use crate::prefix::put_prefix;
-use crate::route::{Offer, Route};
+use crate::route::{PathAttrs, Route};
 use crate::scratch::Scratch;
-use octet_put::{put_behind_length, put_record, put_u16, put_u32};
 use std::alloc::{AllocError, Global};
+use wire_model::{put_behind_length, put_record, put_u16, put_u32};
 
 /// The type of the updates' records, BGP4MP.
 const BGP4MP: u16 = 16;
@@ -41,12 +41,12 @@ const UPDATE: u8 = 2;
 fn put_update_body(
     gone: bool,
     route: &Route,
-    offer: &Offer,
+    attrs: &PathAttrs,
     part: &mut Vec<u8>,
     out: &mut Vec<u8>,
 ) -> Result<(), AllocError>
     ensures { OnOk result (out.new.items ≡ out.old.items
-        ++ update_body gone (route_as route.now) (offer_as offer.now)) }
+        ++ update_body gone (drawn_route_as route.now) (drawn_attrs_as attrs.now)) }
 {
     part.clear();
     if gone {
@@ -54,7 +54,7 @@ fn put_update_body(
         put_behind_length(part, out)?;
         return put_u16(0, out);
     }
-    put_attributes(route.peer, offer, part)?;
+    put_attributes(route.peer, attrs, part)?;
     put_u16(0, out)?;
     put_behind_length(part, out)?;
     put_prefix(route, out)
@@ -96,16 +96,16 @@ fn put_update(
 ) -> Result<(), AllocError>
     requires { 0 < length routes.now }
     ensures put { OnOk result (out.new.items ≡ out.old.items
-        ++ next_update (map route_as routes.now) from.old.state) }
+        ++ next_update (map drawn_route_as routes.now) from.old.state) }
     ensures state { OnOk result (from.new.state ≡ state_after from.old.state 4) }
 {
     let pick = from.draw() as usize % routes.len();
     let route = routes[pick];
     let gone = from.draw() % 4 == 0;
-    let offer = Offer::draw(from);
+    let attrs = PathAttrs::draw(from);
     scratch.update.clear();
     scratch.body.clear();
-    put_update_body(gone, &route, &offer, &mut scratch.part, &mut scratch.update)?;
+    put_update_body(gone, &route, &attrs, &mut scratch.part, &mut scratch.update)?;
     put_session(route.peer, &scratch.update, &mut scratch.body)?;
     put_record(BGP4MP, BGP4MP_MESSAGE_AS4, &scratch.body, out)
 }
@@ -118,7 +118,7 @@ pub fn make_updates(
 ) -> Result<Vec<u8>, AllocError>
     requires { length routes.now ≤ 200000 }
     ensures { IfOk result (λ out. (seed : ℕ)
-        → map route_as routes.now ≡ map (entry_route seed) (range_with_len 0 (length routes.now))
+        → map drawn_route_as routes.now ≡ map (entry_route seed) (range_with_len 0 (length routes.now))
         → from.old.state ≡ state_after seed (5 * length routes.now)
         → out.items ≡ updates_octets seed (length routes.now)) }
 {

@@ -8,7 +8,7 @@ use Rattle.table_model.specs.Bits.{begins}
 use Rattle.table_model.specs.Order.{path_cmp}
 use Rattle.table_model.specs.Table.{Table, Entry, half, cut}
 use Rattle.table_model.proofs.Cut.{entry}
-use Rattle.moves_cert.specs.Demands.{has_no_entries, is_bare}
+use Rattle.moves_model.specs.Demands.{has_no_entries, is_bare}
 
 -- whether q is longer than p and begins with it
 abbrev pub strictly : List Bool → List Bool → Bool

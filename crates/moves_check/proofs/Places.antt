@@ -22,7 +22,7 @@ use Rattle.route_model.proofs.Keyed.{not_same_greater, lookup-below}
 use Rattle.kept_model.proofs.Patches.{family_hop}
 use Rattle.fib_addr.specs.Views.{prefix_as, entry_as}
 use Rattle.fib_addr.specs.declared.entry.Entry as code_entry
-use Rattle.moves_cert.specs.Demands.{is_bare, none_below, old_at}
+use Rattle.moves_model.specs.Demands.{is_bare, none_below, old_at}
 use Rattle.moves_check.specs.Places.{stands_before, IsPlaceOf}
 use Rattle.moves_check.proofs.Olds.{strictly, strictly_after, convex, after_begins, bare_step, bare_nil}
 use Rattle.fib_delta.specs.Views.{InPlace}

@@ -12,15 +12,15 @@ use Rattle.cert_model.specs.Verdict.{all_get}
 use Rattle.cert_model.specs.declared.row.Row.{Row}
 use Rattle.cert_model.specs.Views.{row_as}
 use Rattle.moves_model.specs.Sets.{Allowed, any, these, is_allowed, allowed_by_both, gap, set_over, k_over}
-use Rattle.moves_cert.specs.Demands.{old_at, none_below, demand_over, leaf_demand, join_demand, change_bound}
-use Rattle.moves_cert.specs.Demands.{Demand as ModelDemand}
-use Rattle.moves_cert.specs.Verdict.{NoMoves, Shape, LeafWrong, JoinWrong, have_halves, no_row_more, wrong_moves_row}
+use Rattle.moves_model.specs.Demands.{old_at, none_below, demand_over, leaf_demand, join_demand, change_bound}
+use Rattle.moves_model.specs.Demands.{Demand as ModelDemand}
+use Rattle.moves_model.specs.Verdict.{NoMoves, Shape, LeafWrong, JoinWrong, have_halves, no_row_more, wrong_moves_row}
 use Rattle.moves_check.specs.Views.{no_moves_as}
 use Rattle.moves_check.specs.declared.refusal.NoMoves as code
 use Rattle.moves_check.specs.declared.rows.Demand.{Demand}
 use Rattle.moves_check.specs.Stack.{SameDemand, demand_as, demands_as, wrong_in_rest, MovesRowRead, TakenOff, IsNumberOf, EndsWithBound}
-use Rattle.allowed_hops.specs.Views.{SameAllowed}
-use Rattle.allowed_hops.proofs.Same.{same_allowed, same_both, same_itself}
+use Rattle.fib_moves.specs.Views.{SameAllowed}
+use Rattle.fib_moves.proofs.Same.{same_allowed, same_both, same_itself}
 
 pub push_as : (xs : List Demand) (x : Demand) → demands_as (xs ++ x ∷ []) ≡ demand_as x ∷ demands_as xs
 push_as xs x = go xs []

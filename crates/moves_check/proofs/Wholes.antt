@@ -25,9 +25,9 @@ use Rattle.cert_check.proofs.Holding.{prefix_short}
 use Rattle.fib_addr.specs.Views.{entry_as}
 use Rattle.fib_addr.specs.declared.entry.Entry as code_entry
 use Rattle.moves_model.specs.Nearest.{near_bound}
-use Rattle.moves_cert.specs.Demands.{has_no_entries, is_bare, none_below, old_at}
-use Rattle.moves_cert.specs.Verdict.{NoMoves, NotShortest, wrong_moves_row, too_many}
-use Rattle.moves_cert.proofs.Verdicts.{last_bound}
+use Rattle.moves_model.specs.Demands.{has_no_entries, is_bare, none_below, old_at}
+use Rattle.moves_model.specs.Verdict.{NoMoves, NotShortest, wrong_moves_row, too_many}
+use Rattle.moves_model.proofs.Verdicts.{last_bound}
 use Rattle.moves_check.specs.declared.rows.Against.{Against}
 use Rattle.moves_check.specs.Stack.{IsAsked, EndsWithBound}
 use Rattle.fib_delta.specs.Views.{InPlace}

@@ -6,12 +6,12 @@ use Rattle.table_model.specs.Entries.{Entries}
 use Rattle.cert_model.specs.Rows.{CertRow, leaf_row, join_row, bound_row}
 use Rattle.cert_check.specs.Runs.{RunsTell}
 use Rattle.fib_addr.specs.Views.{prefix_as, entry_as}
-use Rattle.moves_cert.specs.Demands.{old_at, none_below}
-use Rattle.moves_cert.specs.Demands.{Demand as ModelDemand}
-use Rattle.moves_cert.specs.Verdict.{NoMoves, no_row_more, wrong_moves_row}
+use Rattle.moves_model.specs.Demands.{old_at, none_below}
+use Rattle.moves_model.specs.Demands.{Demand as ModelDemand}
+use Rattle.moves_model.specs.Verdict.{NoMoves, no_row_more, wrong_moves_row}
 use Rattle.moves_check.specs.declared.rows.Demand.{Demand}
 use Rattle.moves_check.specs.declared.rows.Against.{Against}
-use Rattle.allowed_hops.specs.Views.{SameAllowed, allowed_as}
+use Rattle.fib_moves.specs.Views.{SameAllowed, allowed_as}
 
 abbrev pub demand_as : Demand → ModelDemand
 demand_as i = record { prefix = prefix_as i.prefix; hops = allowed_as i.hops; k = i.k }

@@ -1,5 +1,5 @@
 -- What a clause sees of answers, and of what is to be checked.
-use Rattle.moves_cert.specs.Verdict as model
+use Rattle.moves_model.specs.Verdict as model
 use Rattle.std.specs.Prelude.{◌≡◌, List}
 use Rattle.std.specs.List.{AllByRecursion}
 use Rattle.std.specs.Map.{keys_of}

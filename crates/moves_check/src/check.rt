@@ -9,11 +9,11 @@ ghost use Rattle.cert_check.specs.Runs.{AreRuns, Below, RunsTell};
 ghost use Rattle.cert_model.specs.Views.{row_as};
 ghost use Rattle.fib_addr.specs.Views.{entry_as};
 ghost use Rattle.fib_delta.specs.Views.{InPlace, change_as};
-ghost use Rattle.moves_cert.specs.Shortest.{AreShortest, AreProvedShortest};
-ghost use Rattle.moves_cert.specs.Verdict.{Twice, Apply, NotShortest, first_refused, changed_by, changed_by_all, moves_verdict, wrong_moves_row};
-ghost use Rattle.moves_cert.specs.Verdict.{too_many as model_too_many};
+ghost use Rattle.moves_model.specs.Shortest.{AreShortest, AreProvedShortest};
+ghost use Rattle.moves_model.specs.Verdict.{Twice, Apply, NotShortest, first_refused, changed_by, changed_by_all, moves_verdict, wrong_moves_row};
+ghost use Rattle.moves_model.specs.Verdict.{too_many as model_too_many};
 ghost use Rattle.table_model.specs.Changes.{after_change};
-ghost use Rattle.moves_cert.specs.Verdict.{answers_differ as model_answers_differ};
+ghost use Rattle.moves_model.specs.Verdict.{answers_differ as model_answers_differ};
 ghost use Rattle.moves_check.specs.Views.{no_moves_as, IfNoMoves, AreEntriesOf, AreChangesOf, AreRowsOf};
 ghost use Rattle.moves_check.specs.Stack.{IsAsked};
 

@@ -3,7 +3,7 @@
 ghost use Rattle.std.specs.Prelude.{◌≡◌, ◌≤◌, map, length};
 ghost use Rattle.fib_addr.specs.Views.{prefix_as, entry_as};
 ghost use Rattle.moves_check.specs.Places.{IsPlaceOf, stands_before};
-ghost use Rattle.moves_cert.specs.Demands.{old_at, none_below};
+ghost use Rattle.moves_model.specs.Demands.{old_at, none_below};
 ghost use Rattle.fib_delta.specs.Views.{InPlace};
 
 use crate::rows::is_same;

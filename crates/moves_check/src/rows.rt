@@ -10,20 +10,19 @@ ghost use Rattle.cert_model.specs.Verdict.{all_get};
 ghost use Rattle.fib_addr.specs.Views.{prefix_as, entry_as};
 ghost use Rattle.cert_model.specs.Views.{row_as};
 ghost use Rattle.moves_model.specs.Sets.{these};
-ghost use Rattle.moves_cert.specs.Demands.{demand_over, join_demand, change_bound, none_below};
-ghost use Rattle.moves_cert.specs.Verdict.{wrong_moves_row};
+ghost use Rattle.moves_model.specs.Demands.{demand_over, join_demand, change_bound, none_below};
+ghost use Rattle.moves_model.specs.Verdict.{wrong_moves_row};
 ghost use Rattle.moves_check.specs.Views.{no_moves_as, AreRowsOf, IsFamilyRow};
 ghost use Rattle.moves_check.specs.Stack.{demand_as, demands_as, SameDemand, IsAsked, MovesRowRead, TakenOff, IsNumberOf, EndsWithBound};
-ghost use Rattle.allowed_hops.specs.Views.{allowed_as};
+ghost use Rattle.fib_moves.specs.Views.{allowed_as};
 ghost use Rattle.fib_delta.specs.Views.{InPlace};
 
 use crate::old::{hop_at, is_bare};
 use crate::refusal::NoMoves;
-use allowed_hops::{AllowedHops, one_more_if, sum};
 use cert_check::{Run, holds};
 use cert_model::Row;
-use fib_addr::{Entry, Family, Hop, Prefix};
-use hop_sets::HopSet;
+use fib_addr::{Entry, Family, Hop, HopSet, Prefix};
+use fib_moves::{AllowedHops, one_more_if, sum};
 use std::alloc::{AllocError, Global};
 
 /// A region on the stack, with the hops that it may inherit and how many changes it needs then.

@@ -22,5 +22,5 @@ nearest w R T = near_of w (answers R []) T 0
 -- ---- regions that need no change
 
 -- where the region of d more bits inherits h, the table gives it the answers f
-abbrev pub GivesAnswers : ℕ → (List Bool → ℕ) → Table → ℕ → Type 0
-GivesAnswers d f T h = (a : List Bool) → length a ≡ d → lpm T a h ≡ f a
+abbrev pub AnswersAs : ℕ → (List Bool → ℕ) → Table → ℕ → Type 0
+AnswersAs d f T h = (a : List Bool) → length a ≡ d → lpm T a h ≡ f a

@@ -2,7 +2,7 @@
 use Rattle.std.proofs.Common.{◌≡◌, ℕ, ◌+◌, ◌≤◌, List, [], length, ap, arith}
 use Rattle.std.proofs.lemmas.List.{length-append}
 use Rattle.route_model.specs.Events.{Event}
-use Rattle.reading_model.specs.Input.{start}
+use Rattle.wire_model.specs.Input.{start}
 use Rattle.mrt_read.specs.Standing.{ReaderFeeds, ReaderStands, ReaderTakesNothing, TakesEvents, reader_left, reader_records}
 use Rattle.mrt_read.specs.declared.reader.Reader.{Reader}
 

@@ -5,15 +5,15 @@ use Rattle.route_model.specs.Events.{Peer, Event}
 use Rattle.octet_fields.specs.Field.{◌>>=◌}
 use Rattle.wire_model.specs.declared.rule.Rule.{Rule}
 use Rattle.wire_model.specs.Record.{Record, Fault, record_at, at_record}
-use Rattle.reading_model.specs.Update.{Said}
-use Rattle.reading_model.specs.Input.{Progress, start, record_in, counted, input}
-use Rattle.reading_model.specs.Reading.{ReadsEvents, ReadsNo}
-use Rattle.reading_model.proofs.Reading.{reading_starts, reading_takes, reading_breaks, reading_too_long, reading_ends_cut, reading_ends}
-use Rattle.mrt_frame.specs.Framing as framing
-use Rattle.mrt_frame.specs.Records.{answer_of}
-use Rattle.mrt_frame.specs.declared.Malformed.{Malformed}
-use Rattle.wire_fields.specs.declared.refusal.Refusal.{Refusal}
-use Rattle.wire_fields.specs.declared.refusal.Refusal.TheVariants.{Rule as Broken}
+use Rattle.wire_model.specs.Update.{Said}
+use Rattle.wire_model.specs.Input.{Progress, start, record_in, counted, input}
+use Rattle.wire_model.specs.Reading.{ReadsEvents, ReadsNo}
+use Rattle.wire_model.proofs.Reading.{reading_starts, reading_takes, reading_breaks, reading_too_long, reading_ends_cut, reading_ends}
+use Rattle.mrt_read.specs.Framing as framing
+use Rattle.mrt_read.specs.Records.{result_of}
+use Rattle.mrt_read.specs.declared.framer.Malformed.{Malformed}
+use Rattle.bgp_attrs.specs.declared.refusal.Refusal.{Refusal}
+use Rattle.bgp_attrs.specs.declared.refusal.Refusal.TheVariants.{Rule as Broken}
 use Rattle.mrt_read.specs.Next as next
 use Rattle.mrt_records.specs.Views.{told_as}
 use Rattle.mrt_records.specs.declared.record.RecordTold.{RecordTold}
@@ -124,10 +124,10 @@ next_some number table r e = said (record_in table r) e where
   said (Ok told) e = absurd cc
   said (Err rule) e = absurd cc
 
-ended : (r : Reader) (front : Result (Record × List ℕ) Rule) → reader_refusal r ≡ None → reader_next_in r.records (peers r) front ≡ Ok None → (result : Result (Unit {0}) Malformed) → answer_of (λ x. x) result ≡ framing.end_in r.records (reader_left r) front → record_at (reader_left r) ≡ front → ReaderTells r result
+ended : (r : Reader) (front : Result (Record × List ℕ) Rule) → reader_refusal r ≡ None → reader_next_in r.records (peers r) front ≡ Ok None → (result : Result (Unit {0}) Malformed) → result_of (λ x. x) result ≡ framing.end_in r.records (reader_left r) front → record_at (reader_left r) ≡ front → ReaderTells r result
 ended r (Ok front) none e result gives is = absurd (next_some r.records (peers r) front.0 e)
 ended r (Err rule) none e result gives is = at_end (reader_left r) refl result gives where
-  at_end : (octets : List ℕ) → reader_left r ≡ octets → (result : Result (Unit {0}) Malformed) → answer_of (λ x. x) result ≡ framing.end_in r.records octets (Err rule) → ReaderTells r result
+  at_end : (octets : List ℕ) → reader_left r ≡ octets → (result : Result (Unit {0}) Malformed) → result_of (λ x. x) result ≡ framing.end_in r.records octets (Err rule) → ReaderTells r result
   at_end [] empty (Ok x) gives = λ fed read s. reading_ends fed read (rw empty at (reads_of fed read r none s))
   at_end [] empty (Err malformed) gives = absurd (err_not_ok _ _ gives)
   at_end (b ∷ octets) some (Ok x) gives = absurd (ok_not_err x (record { number = r.records; rule = rule }) (gives ∙ not_empty r.records b octets rule))
@@ -135,13 +135,13 @@ ended r (Err rule) none e result gives is = at_end (reader_left r) refl result g
       let same = same_fault _ _ (gives ∙ not_empty r.records b octets rule) in
       (ap (λ (f : Fault). f.number) same ∙ sym s.records, reading_ends_cut fed (reader_left r) read malformed.rule (reads_of fed read r none s) (omega (arith, ap length some)) (is ∙ ap Err (sym (ap (λ (f : Fault). f.rule) same))))
 
-nothing_next : (refused : Option Fault) (comes : Result (Option (List Event)) Fault) → refused ≡ None → IfNone refused (framing.kept_or refused comes ≡ Ok None) → comes ≡ Ok None
+nothing_next : (refused : Option Fault) (comes : Result (Option (List Event)) Fault) → refused ≡ None → IfNone refused (framing.refused_or refused comes ≡ Ok None) → comes ≡ Ok None
 nothing_next None comes e used = used
 nothing_next (Some fault) comes e used = absurd cc
 
-pub tells : (r : Reader) (result : Result (Unit {0}) Malformed) → reader_refusal r ≡ None → framing.framer_refusal r.framer ≡ None → framing.framer_count r.framer ≡ r.records → ReaderIsUsedUp r → answer_of (λ x. x) result ≡ framing.framer_end r.framer → ReaderTells r result
+pub tells : (r : Reader) (result : Result (Unit {0}) Malformed) → reader_refusal r ≡ None → framing.framer_refusal r.framer ≡ None → framing.framer_count r.framer ≡ r.records → ReaderIsUsedUp r → result_of (λ x. x) result ≡ framing.framer_end r.framer → ReaderTells r result
 tells r result none going counts used gives =
     ended r (record_at (reader_left r)) none (nothing_next (reader_refusal r) _ none used) result (rw (going, counts) at gives) refl
 
-pub ends_as : (r : Reader) (result : Result (Unit {0}) Malformed) → reader_refusal r ≡ None → framing.framer_refusal r.framer ≡ None → framing.framer_count r.framer ≡ r.records → answer_of (λ x. x) result ≡ framing.framer_end r.framer → answer_of (λ x. x) result ≡ reader_end r
+pub ends_as : (r : Reader) (result : Result (Unit {0}) Malformed) → reader_refusal r ≡ None → framing.framer_refusal r.framer ≡ None → framing.framer_count r.framer ≡ r.records → result_of (λ x. x) result ≡ framing.framer_end r.framer → result_of (λ x. x) result ≡ reader_end r
 ends_as r result none going counts gives = rw none (rw (going, counts) at gives)

@@ -6,11 +6,11 @@ use Rattle.octet_fields.specs.Field.{◌>>=◌}
 use Rattle.wire_model.specs.declared.rule.Rule.{Rule}
 use Rattle.wire_model.specs.declared.rule.Rule.TheVariants.{HeaderCut, BodyCut, TooLong}
 use Rattle.wire_model.specs.Record.{Record, Fault, record_at, at_record}
-use Rattle.reading_model.specs.Input.{Progress, record_in, input}
-use Rattle.reading_model.specs.Reading.{ReadsEvents, ReadsNo}
-use Rattle.mrt_frame.specs.Framing as framing
-use Rattle.mrt_frame.specs.Records.{fault_of}
-use Rattle.mrt_frame.specs.declared.Malformed as code_malformed
+use Rattle.wire_model.specs.Input.{Progress, record_in, input}
+use Rattle.wire_model.specs.Reading.{ReadsEvents, ReadsNo}
+use Rattle.mrt_read.specs.Framing as framing
+use Rattle.mrt_read.specs.Records.{fault_of}
+use Rattle.mrt_read.specs.declared.framer.Malformed as code_malformed
 use Rattle.fib_prefix.specs.Views.{event_as}
 use Rattle.fib_prefix.specs.declared.event.Event as code_event
 use Rattle.mrt_records.specs.Views.{peers_in}
@@ -60,7 +60,7 @@ reader_next_in number table (Err rule) = Ok None
 
 -- what comes next; the refusal that is kept comes first
 abbrev pub reader_next : Reader → Result (Option (List Event)) Fault
-reader_next reader = framing.kept_or (reader_refusal reader) (reader_next_in (reader_records reader) (peers reader) (record_at (reader_left reader)))
+reader_next reader = framing.refused_or (reader_refusal reader) (reader_next_in (reader_records reader) (peers reader) (record_at (reader_left reader)))
 
 -- the answer is this, but for want of memory
 abbrev pub ReaderAnswers : {A : Type 0} → Result (Option (Vec code_event.Event A)) EventsError → Result (Option (List Event)) Fault → Type 0
@@ -152,7 +152,7 @@ ReaderTook old (Err error) new = Failed old error new
 
 -- what is said of the end of the input; the refusal that is kept comes first
 abbrev pub reader_end : Reader → Result (Unit {0}) Fault
-reader_end reader = framing.kept_or (reader_refusal reader) (framing.end_in (reader_records reader) (reader_left reader) (record_at (reader_left reader)))
+reader_end reader = framing.refused_or (reader_refusal reader) (framing.end_in (reader_records reader) (reader_left reader) (record_at (reader_left reader)))
 
 -- what all that was fed says, or where it breaks a rule
 abbrev pub ReaderTells : Reader → Result (Unit {0}) code_malformed.Malformed → Type 0

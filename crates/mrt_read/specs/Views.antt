@@ -1,7 +1,7 @@
 -- What a clause sees of what was read.
 use Rattle.std.specs.Prelude.{ℕ, List, [], Option, Some, None}
 use Rattle.route_model.specs.Events.{Event}
-use Rattle.reading_model.specs.Update.{Said}
+use Rattle.wire_model.specs.Update.{Said}
 use Rattle.mrt_records.specs.declared.record.RecordTold.{RecordTold}
 use Rattle.mrt_records.specs.declared.record.RecordTold.TheVariants.{Skipped, Treated}
 

@@ -8,7 +8,10 @@
 //! table.
 #![tactic(auto)]
 
+mod framer;
 mod reader;
+mod whole;
 
-pub use mrt_frame::Malformed;
+pub use framer::{Framed, Framer, Malformed};
 pub use reader::{EventsError, Reader};
+pub use whole::{WholeError, read_all_events};

@@ -4,13 +4,13 @@ ghost use Rattle.std.specs.Prelude.{◌≡◌, ◌+◌, ◌-◌, ◌^◌, ◌≤
 ghost use Rattle.fib_prefix.specs.Views.{event_as};
 ghost use Rattle.mrt_read.specs.Views as views;
 ghost use Rattle.std.specs.Option.{ForNone};
-ghost use Rattle.mrt_frame.specs.Framing as framing;
-ghost use Rattle.mrt_frame.specs.Framing.{framer_count};
+ghost use Rattle.mrt_read.specs.Framing as framing;
+ghost use Rattle.mrt_read.specs.Framing.{framer_count};
 ghost use Rattle.mrt_read.specs.Next.{NextGoes};
-ghost use Rattle.reading_model.specs.Input.{start};
+ghost use Rattle.wire_model.specs.Input.{start};
 
+use crate::{Framed, Framer, Malformed};
 use fib_prefix::Event;
-use mrt_frame::{Framed, Framer, Malformed};
 use mrt_records::{PeerTable, RecordTold, Refusal, read_record};
 use std::alloc::{AllocError, Global};
 use thiserror::Error;
@@ -92,7 +92,7 @@ pub struct Reader {
 
 impl Reader {
     ghost use Rattle.mrt_read.specs.Standing.{ReaderAnswers, reader_end, ReaderFeeds, ReaderFilled, ReaderFills, ReaderIsUnchanged, ReaderIsUsedUp, reader_left, reader_next, reader_records, reader_refusal, reader_skipped, reader_treated, ReaderStands, ReaderTells, ReaderTook};
-    ghost use Rattle.mrt_frame.specs.Records.{answer_of};
+    ghost use Rattle.mrt_read.specs.Records.{result_of};
 
     /// A reader that was fed nothing.
     pub fn new(alloc: Global) -> Reader
@@ -174,7 +174,7 @@ impl Reader {
     /// passed over.
     pub fn finish(&self) -> Result<(), Malformed>
         requires { ReaderIsUsedUp self.now }
-        ensures gives { answer_of (λ x. x) result ≡ reader_end self.now }
+        ensures gives { result_of (λ x. x) result ≡ reader_end self.now }
         ensures tells { ReaderTells self.now result }
     {
         if let Some(refused) = self.refused {

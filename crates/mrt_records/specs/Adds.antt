@@ -2,9 +2,9 @@
 use Rattle.std.specs.Prelude.{◌≡◌, ℕ, List, [], ◌∷◌, ◌++◌, Option, Some, None, Result, Ok, Err, Bool}
 use Rattle.route_model.specs.Events.{Event}
 use Rattle.wire_model.specs.declared.rule.Rule.{Rule}
-use Rattle.reading_model.specs.Update.{Said}
-use Rattle.wire_fields.specs.declared.refusal.Refusal.{Refusal}
-use Rattle.wire_fields.specs.Gives.{Refuses}
+use Rattle.wire_model.specs.Update.{Said}
+use Rattle.bgp_attrs.specs.declared.refusal.Refusal.{Refusal}
+use Rattle.bgp_attrs.specs.Gives.{Refuses}
 
 -- the event of an entry, and what follows it
 abbrev pub AddsEntry : {T : Type 0} → (T → List ℕ) → List Event → List Event → Result T Refusal → Result (Event × List ℕ) Rule → Type 0

@@ -1,2 +1,4 @@
 pub mod Views
 pub mod Adds
+pub mod AddsUpdate
+pub mod UpdateViews

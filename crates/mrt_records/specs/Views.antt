@@ -8,8 +8,8 @@ use Rattle.fib_prefix.specs.Views.{peer_as, event_as}
 use Rattle.fib_prefix.specs.declared.event.Event as code_event
 use Rattle.wire_model.specs.declared.rule.Rule.{Rule}
 use Rattle.wire_model.specs.Record.{Record}
-use Rattle.reading_model.specs.Update.{Said, said, bgp4mp}
-use Rattle.reading_model.specs.Input.{rib_of, rib_behind, is_session, record_behind}
+use Rattle.wire_model.specs.Update.{Said, said, bgp4mp}
+use Rattle.wire_model.specs.Input.{rib_of, rib_behind, is_session, said_behind}
 use Rattle.mrt_records.specs.declared.peer_table.PeerTable.{PeerTable}
 use Rattle.mrt_records.specs.declared.record.RecordTold.{RecordTold}
 use Rattle.mrt_records.specs.declared.record.RecordTold.TheVariants.{Skipped, Events, Treated}
@@ -31,12 +31,12 @@ abbrev pub rib_says : Option (List Peer) → Bool → Family → List ℕ → Re
 rib_says peers ids family body = rib_behind peers ids family body >>= λ events. Ok (Some (said events))
 
 -- what a record of a session says, or nothing where it is skipped
-abbrev pub session_says : Record → Result (Option Said) Rule
-session_says r = if is_session r then bgp4mp r.subtype (r.kind == 17) r.body else Ok None
+abbrev pub session_record_says : Record → Result (Option Said) Rule
+session_record_says r = if is_session r then bgp4mp r.subtype (r.kind == 17) r.body else Ok None
 
 -- what a record that is no peer table says behind these peers
 abbrev pub behind_peers : Option (List Peer) → Record → Result (Option Said) Rule
-behind_peers peers r = record_behind peers r (rib_of r)
+behind_peers peers r = said_behind peers r (rib_of r)
 
 -- what a record says, by what it told and its events
 abbrev pub told_as : RecordTold → List Event → Option Said
@@ -45,5 +45,5 @@ told_as Events events = Some (said events)
 told_as Treated events = Some (record { events = events; treated = true })
 
 -- the peer table behind a record, and what the record says
-abbrev pub read_as : Option PeerTable → RecordTold → List Event → Option (List Peer) × Option Said
-read_as table told events = (peers_in table, told_as told events)
+abbrev pub record_as : Option PeerTable → RecordTold → List Event → Option (List Peer) × Option Said
+record_as table told events = (peers_in table, told_as told events)

@@ -3,19 +3,19 @@
 ghost use Rattle.std.specs.Prelude.{map, ◌≡◌, [], ◌∷◌, ◌++◌, if◌then◌else◌, OnOk, option_map};
 ghost use Rattle.route_model.specs.Events.{Down};
 ghost use Rattle.fib_prefix.specs.Views.{peer_as, event_as};
-ghost use Rattle.reading_model.specs.Update as model;
-ghost use Rattle.wire_fields.specs.Gives.{GivesInMemory};
-ghost use Rattle.bgp_update.specs.Adds.{AddsSaid};
+ghost use Rattle.wire_model.specs.Update as model;
+ghost use Rattle.bgp_attrs.specs.Gives.{GivesInMemory};
+ghost use Rattle.mrt_records.specs.AddsUpdate.{AddsSaid};
 ghost use Rattle.mrt_records.specs.Adds.{AddsSession};
 ghost use Rattle.mrt_records.specs.Views.{said_as};
 
 use crate::number::as_number;
-use bgp_update::push_message;
+use crate::push_message;
+use bgp_attrs::{Refusal, Rule, address, family_of};
 use fib_prefix::{Event, Family, Peer};
 use octet_fields::{octets, u16_at};
-use reading_model::Session;
 use std::alloc::{AllocError, Global};
-use wire_fields::{Refusal, Rule, address, family_of};
+use wire_model::Session;
 
 // The subtypes that are read (RFC 6396, sections 4.4.1 to 4.4.6; RFC 8050, section 3).
 
@@ -61,7 +61,7 @@ fn push_down(events: &mut Vec<Event>, peer: Peer, lost: bool) -> Result<(), Allo
 }
 
 /// Adds the event of a state change, if it is one. A state change is never treated as a withdrawal.
-#[tactic(auto, unfolding(reading_model::specs::Update::state_change))]
+#[tactic(auto, unfolding(wire_model::specs::Update::state_change))]
 fn push_change(events: &mut Vec<Event>, bytes: &[u8], peer: Peer) -> Result<bool, Refusal>
     ensures { AddsSaid (map event_as events.old.items) (map event_as events.new.items) result
         (model.state_change (peer_as peer) bytes.now) }
@@ -118,7 +118,7 @@ fn push_said(
 }
 
 /// Adds the events of a record behind its Address Family; `None` where that is another one than IPv4 and IPv6.
-#[tactic(auto, unfolding(reading_model::specs::Update::session_behind))]
+#[tactic(auto, unfolding(wire_model::specs::Update::session_behind))]
 fn push_session(
     events: &mut Vec<Event>,
     bytes: &[u8],
@@ -146,7 +146,7 @@ fn push_session(
 ///
 /// Messages of the LOCAL subtypes, which the recorder sent itself (RFC 6396, sections 4.4.5 and 4.4.6), are read as the others
 /// are: their routes count as routes of the peer that they name.
-#[tactic(auto, unfolding(reading_model::specs::Update::bgp4mp, reading_model::specs::Update::session_in))]
+#[tactic(auto, unfolding(wire_model::specs::Update::bgp4mp, wire_model::specs::Update::session_in))]
 pub fn push_bgp4mp(
     events: &mut Vec<Event>,
     body: &[u8],

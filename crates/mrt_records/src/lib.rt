@@ -8,13 +8,18 @@
 #![tactic(auto)]
 
 mod bgp4mp;
+mod event;
+mod message;
 mod number;
 mod peer_table;
 mod record;
 mod rib;
+mod update;
 
+pub use bgp_attrs::{Refusal, WireFault, read_wire_prefix};
 pub use bgp4mp::{push_bgp4mp, read_bgp4mp};
+pub use event::push_event;
+pub use message::{push_message, read_message};
 pub use peer_table::PeerTable;
 pub use record::{RecordTold, read_record};
 pub use rib::{push_rib, read_rib};
-pub use wire_fields::Refusal;

@@ -4,8 +4,8 @@ ghost use Rattle.octet_fields.specs.Field.{number_at};
 ghost use Rattle.octet_fields.specs.Gives.{Gives};
 ghost use Rattle.wire_model.specs.Path.{as_size};
 
+use bgp_attrs::Rule;
 use octet_fields::{u16_at, u32_at};
-use wire_fields::Rule;
 
 /// An AS number, in four octets where it is wide and else in two.
 pub fn as_number(rule: Rule, wide: bool, bytes: &[u8]) -> Result<(u32, &[u8]), Rule>

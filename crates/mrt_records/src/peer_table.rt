@@ -4,14 +4,14 @@ ghost use Rattle.std.specs.Prelude.{map, []};
 ghost use Rattle.octet_fields.specs.Field.{one_more, times};
 ghost use Rattle.octet_fields.specs.Gives.{Gives};
 ghost use Rattle.fib_prefix.specs.Views.{peer_as};
-ghost use Rattle.reading_model.specs.Rib.{peer_at, peer_table};
-ghost use Rattle.wire_fields.specs.Gives.{GivesInMemory};
+ghost use Rattle.wire_model.specs.Rib.{peer_at, peer_table};
+ghost use Rattle.bgp_attrs.specs.Gives.{GivesInMemory};
 
 use crate::number::as_number;
+use bgp_attrs::{Refusal, Rule, address};
 use fib_prefix::{Family, Peer};
 use octet_fields::{octet, octets, u16_at};
 use std::alloc::Global;
-use wire_fields::{Refusal, Rule, address};
 
 /// Set in a Peer Type where the peer's address is IPv6: the bit I of RFC 6396, section 4.3.1.
 const IS_IPV6: u8 = 0b01;
@@ -20,7 +20,7 @@ const IS_IPV6: u8 = 0b01;
 const HAS_WIDE_AS: u8 = 0b10;
 
 /// The peer at the front, and what follows it.
-#[tactic(auto, unfolding(reading_model::specs::Rib::peer_at))]
+#[tactic(auto, unfolding(wire_model::specs::Rib::peer_at))]
 fn peer(bytes: &[u8]) -> Result<(Peer, &[u8]), Rule>
     ensures { Gives (λ x. (peer_as x.0, x.1.now)) result (peer_at bytes.now) }
 {
@@ -61,7 +61,7 @@ impl PeerTable {
     ghost use Rattle.mrt_records.specs.Views.{peers_of};
 
     /// Reads a PEER_INDEX_TABLE.
-    #[tactic(auto, unfolding(reading_model::specs::Rib::peer_table))]
+    #[tactic(auto, unfolding(wire_model::specs::Rib::peer_table))]
     pub fn read(alloc: Global, body: &[u8]) -> Result<PeerTable, Refusal>
         ensures { GivesInMemory peers_of result (peer_table body.now) }
     {

@@ -2,17 +2,17 @@
 
 ghost use Rattle.std.specs.Prelude.{◌≡◌, ℕ, List, [], map, option_copied, IfOk, OnErr};
 ghost use Rattle.fib_prefix.specs.Views.{event_as};
-ghost use Rattle.wire_fields.specs.Gives.{GivesInMemory};
-ghost use Rattle.reading_model.specs.Input as model;
+ghost use Rattle.bgp_attrs.specs.Gives.{GivesInMemory};
+ghost use Rattle.wire_model.specs.Input as model;
 ghost use Rattle.mrt_records.specs.Adds.{AddsSession};
-ghost use Rattle.mrt_records.specs.Views.{behind_peers, peers_in, read_as, rib_says, session_says};
+ghost use Rattle.mrt_records.specs.Views.{behind_peers, peers_in, record_as, rib_says, session_record_says};
 
 use crate::bgp4mp::push_bgp4mp;
 use crate::peer_table::PeerTable;
 use crate::rib::push_rib;
+use bgp_attrs::{Refusal, Rule};
 use fib_prefix::{Event, Family};
 use std::alloc::Global;
-use wire_fields::{Refusal, Rule};
 
 // The types that are read (RFC 6396, section 4).
 
@@ -85,7 +85,7 @@ fn push_session_record(
     body: &[u8],
 ) -> Result<Option<bool>, Refusal>
     ensures { AddsSession (map event_as events.old.items) (map event_as events.new.items) result
-        (session_says (record { kind = kind; subtype = sub; body = body.now })) }
+        (session_record_says (record { kind = kind; subtype = sub; body = body.now })) }
 {
     match kind {
         BGP4MP => push_bgp4mp(events, body, sub, false),
@@ -113,7 +113,7 @@ fn push_behind(
 }
 
 /// What the record told, whose events stand in `events`, which was empty.
-#[tactic(auto, unfolding(reading_model::specs::Input::record_in))]
+#[tactic(auto, unfolding(wire_model::specs::Input::record_in))]
 fn tell(
     alloc: Global,
     events: &mut Vec<Event>,
@@ -123,7 +123,7 @@ fn tell(
     body: &[u8],
 ) -> Result<RecordTold, Refusal>
     requires { events.old.items ≡ [] }
-    ensures value { GivesInMemory (λ told. read_as table.new told (map event_as events.new.items)) result
+    ensures value { GivesInMemory (λ told. record_as table.new told (map event_as events.new.items)) result
         (model.record_in (peers_in table.old) (record { kind = kind; subtype = sub; body = body.now })) }
     ensures skips { IfOk result (λ told. told ≡ RecordTold.Skipped → events.new.items ≡ []) }
     ensures err { OnErr result (table.new ≡ table.old) }
@@ -158,7 +158,7 @@ pub fn read_record(
     sub: u16,
     body: &[u8],
 ) -> Result<RecordTold, Refusal>
-    ensures value { GivesInMemory (λ told. read_as table.new told (map event_as events.new.items)) result
+    ensures value { GivesInMemory (λ told. record_as table.new told (map event_as events.new.items)) result
         (model.record_in (peers_in table.old) (record { kind = kind; subtype = sub; body = body.now })) }
     ensures skips { IfOk result (λ told. told ≡ RecordTold.Skipped → events.new.items ≡ []) }
     ensures err { OnErr result (table.new ≡ table.old) }

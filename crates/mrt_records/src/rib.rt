@@ -4,20 +4,19 @@ ghost use Rattle.std.specs.Prelude.{◌≡◌, [], map};
 ghost use Rattle.octet_fields.specs.Field.{one_more, times};
 ghost use Rattle.fib_addr.specs.Views.{prefix_as};
 ghost use Rattle.fib_prefix.specs.Views.{peer_as, event_as};
-ghost use Rattle.reading_model.specs.Rib.{rib_entry_at, entry_hop, rib};
+ghost use Rattle.wire_model.specs.Rib.{rib_entry_at, entry_hop, rib};
 ghost use Rattle.bgp_attrs.specs.Views.{hop_as, rib_listed_as};
-ghost use Rattle.wire_fields.specs.Gives.{GivesInMemory};
-ghost use Rattle.bgp_update.specs.Adds.{AddsEvents};
+ghost use Rattle.bgp_attrs.specs.Gives.{GivesInMemory};
+ghost use Rattle.mrt_records.specs.AddsUpdate.{AddsEvents};
 ghost use Rattle.mrt_records.specs.Adds.{AddsEntries, AddsEntry};
 ghost use Rattle.mrt_records.specs.Views.{peers_of};
 
 use crate::peer_table::PeerTable;
-use bgp_attrs::{HopOctets, RibAttrs, read_rib_attrs};
-use bgp_update::push_event;
+use crate::push_event;
+use bgp_attrs::{HopOctets, Refusal, RibAttrs, Rule, path_id, prefix, read_rib_attrs};
 use fib_prefix::{Event, Family, Peer, Prefix, Via};
 use octet_fields::{octets, u16_at};
 use std::alloc::Global;
-use wire_fields::{Refusal, Rule, path_id, prefix};
 
 /// The next hop of an entry in a record of this family.
 #[inline(always)]
@@ -31,7 +30,7 @@ fn hop_of_entry<'a>(family: Family, attrs: &RibAttrs<'a>) -> HopOctets<'a>
 }
 
 /// Adds the event of the entry at the front, and gives what follows it.
-#[tactic(auto, unfolding(reading_model::specs::Rib::rib_entry_at))]
+#[tactic(auto, unfolding(wire_model::specs::Rib::rib_entry_at))]
 #[inline(always)]
 fn push_entry<'a>(
     events: &mut Vec<Event>,
@@ -90,7 +89,7 @@ fn push_entries<'a>(
 /// Adds an event for each entry of a RIB_IPV4_UNICAST or RIB_IPV6_UNICAST record behind the peer table, in their order; with `ids` of a
 /// RIB_IPV4_UNICAST_ADDPATH or RIB_IPV6_UNICAST_ADDPATH record (RFC 8050, section 4), whose entries have path identifiers. Where the
 /// record is refused, or memory runs out, some may have been added.
-#[tactic(auto, unfolding(reading_model::specs::Rib::rib))]
+#[tactic(auto, unfolding(wire_model::specs::Rib::rib))]
 pub fn push_rib(
     events: &mut Vec<Event>,
     body: &[u8],

@@ -2,27 +2,27 @@
 use Rattle.std.proofs.Common.{◌≡◌, ℕ, ◌+◌, ◌%◌, ◌^◌, Bool, true, false, List, [], ◌∷◌, ◌++◌, length, None, refl, sym, ap, ◌∙◌, append_assoc, append-nil, length-append, arith}
 use Rattle.std.specs.Prelude.{flat_map, if◌then◌else◌}
 use Rattle.route_model.specs.Events.{Peer}
-use Rattle.route_model.specs.Choice.{Place, Offer, Candidates}
+use Rattle.route_model.specs.Choice.{Place, PathAttrs, Candidates}
 use Rattle.fib_addr.specs.Views.{prefix_as}
-use Rattle.saved_model.specs.Entries.{entry_octets}
-use Rattle.written_model.specs.Octets.{number_octets, prefix_octets, record_octets}
-use Rattle.saved_model.specs.Checkpoint.{Piece, piece_body, piece_record, piece_records, rib_subtype}
-use Rattle.saved_model.specs.Saved.{has_place, piece_of, with_candidate, pieces_from, pieces_of}
+use Rattle.mrt_write.specs.Entries.{entry_octets}
+use Rattle.wire_model.specs.Octets.{number_octets, prefix_octets, record_octets}
+use Rattle.mrt_write.specs.Checkpoint.{Piece, piece_body, piece_record, piece_records, rib_subtype}
+use Rattle.mrt_write.specs.Saved.{has_place, piece_of, with_candidate, pieces_from, pieces_of}
 use Rattle.mrt_write.specs.declared.growing.Open.{Open}
 use Rattle.mrt_write.specs.Holds.{LeadsTo, OpenHolds, OpenLeadsTo}
 
-push : (f : Place × Offer → List ℕ) (cs : Candidates) (c : Place × Offer) → flat_map f (cs ++ c ∷ []) ≡ flat_map f cs ++ f c
+push : (f : Place × PathAttrs → List ℕ) (cs : Candidates) (c : Place × PathAttrs) → flat_map f (cs ++ c ∷ []) ≡ flat_map f cs ++ f c
 push f [] c = append-nil (f c)
 push f (x ∷ cs) c = ap (λ xs. f x ++ xs) (push f cs c) ∙ sym (append_assoc (f x) (flat_map f cs) (f c))
 
 -- what is known of the test of room
-abbrev pub Tells : Bool → List Peer → Bool → Open → List ℕ → Place × Offer → Type 0
+abbrev pub Tells : Bool → List Peer → Bool → Open → List ℕ → Place × PathAttrs → Type 0
 Tells b peers ids old entry c = (p : Piece) → p.prefix ≡ prefix_as old.prefix → length p.candidates ≡ old.count → length (flat_map (entry_octets peers ids) p.candidates) ≡ length old.entries.items → length (entry_octets peers ids c) ≡ length entry → b ≡ has_place peers ids p c
 
-told : (b : Bool) (peers : List Peer) (ids : Bool) (old : Open) (entry : List ℕ) (c : Place × Offer) (p : Piece) → Tells b peers ids old entry c → entry ≡ entry_octets peers ids c → OpenHolds peers ids old p → b ≡ has_place peers ids p c
+told : (b : Bool) (peers : List Peer) (ids : Bool) (old : Open) (entry : List ℕ) (c : Place × PathAttrs) (p : Piece) → Tells b peers ids old entry c → entry ≡ entry_octets peers ids c → OpenHolds peers ids old p → b ≡ has_place peers ids p c
 told b peers ids old entry c p tells e h = tells p h.prefix h.count (ap length (sym h.entries)) (ap length (sym e))
 
-pub open_grows : (peers : List Peer) (ids : Bool) (old new : Open) (out : List ℕ) (c : Place × Offer) (entry : List ℕ) (rest : Candidates) (whole : List ℕ)
+pub open_grows : (peers : List Peer) (ids : Bool) (old new : Open) (out : List ℕ) (c : Place × PathAttrs) (entry : List ℕ) (rest : Candidates) (whole : List ℕ)
     → new.number ≡ old.number → new.prefix ≡ old.prefix → new.count ≡ old.count + 1 → new.entries.items ≡ old.entries.items ++ entry → entry ≡ entry_octets peers ids c → Tells true peers ids old entry c
     → OpenLeadsTo peers ids old out (c ∷ rest) whole → OpenLeadsTo peers ids new out rest whole
 unfolding pieces_from
@@ -53,7 +53,7 @@ rounded peers ids n m (p ∷ ps) e = ap (λ xs. xs ++ piece_records peers ids (n
 round_numbers : (peers : List Peer) (ids : Bool) (n : ℕ) (ps : List Piece) → piece_records peers ids n ps ≡ piece_records peers ids (n % 2 ^ 32) ps
 round_numbers peers ids n ps = rounded peers ids n (n % 2 ^ 32) ps (omega arith)
 
-pub open_closes : (peers : List Peer) (ids : Bool) (old new : Open) (out after : List ℕ) (c : Place × Offer) (entry : List ℕ) (rest : Candidates) (whole : List ℕ)
+pub open_closes : (peers : List Peer) (ids : Bool) (old new : Open) (out after : List ℕ) (c : Place × PathAttrs) (entry : List ℕ) (rest : Candidates) (whole : List ℕ)
     → new.number ≡ (old.number + 1) % 2 ^ 32 → prefix_as new.prefix ≡ c.0.prefix → new.count ≡ 1 → new.entries.items ≡ entry → entry ≡ entry_octets peers ids c → Tells false peers ids old entry c
     → ((p : Piece) → p.prefix ≡ prefix_as old.prefix → length p.candidates ≡ old.count → old.entries.items ≡ flat_map (entry_octets peers ids) p.candidates → after ≡ out ++ piece_record peers ids old.number p)
     → OpenLeadsTo peers ids old out (c ∷ rest) whole → OpenLeadsTo peers ids new after rest whole
@@ -81,7 +81,7 @@ open_closes peers ids old new out after c entry rest whole e1 e2 e3 e4 e5 tells 
 -- ---- over all candidates
 
 -- the first record is opened
-pub open_starts : (peers : List Peer) (ids : Bool) (o : Open) (out : List ℕ) (c : Place × Offer) (rest : Candidates) (whole : List ℕ) → o.number ≡ 0 → prefix_as o.prefix ≡ c.0.prefix → o.count ≡ 1 → o.entries.items ≡ entry_octets peers ids c
+pub open_starts : (peers : List Peer) (ids : Bool) (o : Open) (out : List ℕ) (c : Place × PathAttrs) (rest : Candidates) (whole : List ℕ) → o.number ≡ 0 → prefix_as o.prefix ≡ c.0.prefix → o.count ≡ 1 → o.entries.items ≡ entry_octets peers ids c
     → LeadsTo peers ids None out (c ∷ rest) whole → OpenLeadsTo peers ids o out rest whole
 unfolding pieces_of
 open_starts peers ids o out c rest whole e1 e2 e3 e4 h = record {

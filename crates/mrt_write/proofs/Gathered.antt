@@ -2,10 +2,10 @@
 use Rattle.std.proofs.Common.{◌≡◌, ℕ, List, [], ◌∷◌, ◌++◌, length, map, drop, refl, sym, ap, ◌∙◌, ◌≤◌, append_assoc, append-nil}
 use Rattle.std.specs.Prelude.{fold, flat_map}
 use Rattle.std.proofs.Math.ListN.{drop_of_length-le}
-use Rattle.written_model.specs.Octets.{number_octets}
-use Rattle.saved_model.specs.Entries.{table_peer}
-use Rattle.saved_model.specs.Checkpoint.{table_body}
-use Rattle.saved_model.specs.Saved.{peers_with_candidates}
+use Rattle.wire_model.specs.Octets.{number_octets}
+use Rattle.mrt_write.specs.Entries.{table_peer}
+use Rattle.mrt_write.specs.Checkpoint.{table_body}
+use Rattle.mrt_write.specs.Saved.{peers_with_candidates}
 use Rattle.fib_prefix.specs.Views.{cand_as}
 use Rattle.fib_prefix.specs.declared.event.Cand as code_cand
 use Rattle.std.specs.BTreeSet.{insert_key}

@@ -18,8 +18,8 @@ use Rattle.fib_prefix.specs.Views.{peer_as}
 use Rattle.fib_prefix.specs.Order.{code_peer_cmp}
 use Rattle.fib_prefix.specs.declared.event.Peer as code
 use Rattle.fib_prefix.proofs.Peers.{peer_is, peer_total}
-use Rattle.saved_model.proofs.Sharing.{index_is}
-use Rattle.mrt_write.specs.Dumps.{HasNoIndex, IsIndex}
+use Rattle.mrt_write.proofs.Sharing.{index_is}
+use Rattle.mrt_write.specs.Dumps.{HasNoIndex, IsPeerIndex}
 
 is_peer : (q : code.Peer) → IsPeer (peer_as q)
 is_peer q = length-bits_of (width q.addr.family) q.addr.bits
@@ -119,16 +119,16 @@ is_there (x ∷ list) q (suc i) l e = ap (λ b. same_peer (peer_as q) (peer_as x
     or_true true = refl
     or_true false = refl
 
-index_at : (list : List code.Peer) (q : code.Peer) (i : ℕ) → IsStrictlySortedBy code_peer_cmp list → i < length list → ((d : code.Peer) → code_peer_cmp (get_or list i d) q ≡ Equal) → IsIndex (map peer_as list) (peer_as q) i
+index_at : (list : List code.Peer) (q : code.Peer) (i : ℕ) → IsStrictlySortedBy code_peer_cmp list → i < length list → ((d : code.Peer) → code_peer_cmp (get_or list i d) q ≡ Equal) → IsPeerIndex (map peer_as list) (peer_as q) i
 index_at list q i s l h =
     let there = is_there list q i l h in
     (there, sym (first_is list q i s l h) ∙ sym (index_is (peer_as q) (map peer_as list) there))
 
-pub place_found : (list : List code.Peer) (q : code.Peer) (i : ℕ) → IsStrictlySortedBy code_peer_cmp list → i < length list → IsBinarySearchResult (λ y. code_peer_cmp y q) list (Ok i) → IsIndex (map peer_as list) (peer_as q) i
+pub place_found : (list : List code.Peer) (q : code.Peer) (i : ℕ) → IsStrictlySortedBy code_peer_cmp list → i < length list → IsBinarySearchResult (λ y. code_peer_cmp y q) list (Ok i) → IsPeerIndex (map peer_as list) (peer_as q) i
 place_found list q i s l h = index_at list q i s l (λ d. h d)
 
 -- or a place that is tried has it
-pub place_tried : (list : List code.Peer) (q x : code.Peer) (i : ℕ) → IsStrictlySortedBy code_peer_cmp list → i < length list → x ≡ get_or list i x → is_eq (code_peer_cmp x q) ≡ true → IsIndex (map peer_as list) (peer_as q) i
+pub place_tried : (list : List code.Peer) (q x : code.Peer) (i : ℕ) → IsStrictlySortedBy code_peer_cmp list → i < length list → x ≡ get_or list i x → is_eq (code_peer_cmp x q) ≡ true → IsPeerIndex (map peer_as list) (peer_as q) i
 place_tried list q x i s l at e = index_at list q i s l (λ d. ap (λ y. code_peer_cmp y q) (by_default list i d l ∙ sym at) ∙ equal (code_peer_cmp x q) e)
   where
     by_default : (ys : List code.Peer) (j : ℕ) (d : code.Peer) → j < length ys → get_or ys j d ≡ get_or ys j x

@@ -3,9 +3,9 @@ use Rattle.std.proofs.Common.{◌≡◌, ◌<◌, ◌≤◌, Bool, true, false, 
 use Rattle.std.specs.Prelude.{◌||◌, ◌==◌, nat_lt, option_map}
 use Rattle.std.specs.Option.{option_or}
 use Rattle.std.proofs.lemmas.Bool.{lt-ltb, le-ltb}
-use Rattle.route_model.specs.Choice.{Place, Offer}
-use Rattle.saved_model.specs.Checkpoint.{has_ids}
-use Rattle.saved_model.specs.Saved.{long_one, most_path}
+use Rattle.route_model.specs.Choice.{Place, PathAttrs}
+use Rattle.mrt_write.specs.Checkpoint.{has_ids}
+use Rattle.mrt_write.specs.Saved.{long_one, most_path}
 use Rattle.fib_prefix.specs.Views.{cand_as}
 use Rattle.fib_prefix.specs.declared.event.Cand.{Cand}
 
@@ -35,7 +35,7 @@ ids_one before c b e = ap (λ x. before || x) (e ∙ sym (or_false (not (c.via.i
     or_false true = refl
     or_false false = refl
 
-abbrev one_long : (c : Cand) (b : Bool) → Option (Place × Offer)
+abbrev one_long : (c : Cand) (b : Bool) → Option (Place × PathAttrs)
 one_long c b = cond b (Some (cand_as c)) None
 
 -- it isn't too long

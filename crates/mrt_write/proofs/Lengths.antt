@@ -7,11 +7,11 @@ use Rattle.table_model.specs.declared.family.Family.TheVariants.{V4, V6}
 use Rattle.table_model.specs.Address.{Address}
 use Rattle.table_model.specs.Width.{width}
 use Rattle.wire_model.specs.Wire.{octets_for}
-use Rattle.route_model.specs.Choice.{Place, Offer}
-use Rattle.written_model.specs.Octets.{as_path_octets, address_octets}
-use Rattle.written_model.proofs.Attributes.{length-as_path}
-use Rattle.written_model.proofs.Addresses.{length-address}
-use Rattle.saved_model.specs.Entries.{path_octets, path_attribute, hop_attribute_of, hop_attribute, attributes_of}
+use Rattle.route_model.specs.Choice.{Place, PathAttrs}
+use Rattle.wire_model.specs.Octets.{as_path_octets, address_octets}
+use Rattle.wire_model.proofs.Attributes.{length-as_path}
+use Rattle.wire_model.proofs.Addresses.{length-address}
+use Rattle.mrt_write.specs.Entries.{path_octets, path_attribute, hop_attribute_of, hop_attribute, attributes_of}
 use Rattle.mrt_write.proofs.Written.{value_short, path_some, path_none}
 
 -- a path of 1 to 254 is one sequence
@@ -35,11 +35,11 @@ length_short : (asn n : ℕ) → 0 < n → n < 64 → length (path_attribute asn
 length_short asn n some few = omega (arith, ap length (short_put [] asn n some few), length-as_path asn n)
 
 -- the attributes of no path, and of a short one
-pub length_none : (c : Place × Offer) → c.1.path ≡ 0 → length (attributes_of c) ≡ length (hop_attribute c.1.hop)
+pub length_none : (c : Place × PathAttrs) → c.1.path ≡ 0 → length (attributes_of c) ≡ length (hop_attribute c.1.hop)
 unfolding attributes_of
 length_none c e = sym (ap (λ xs. length (xs ++ hop_attribute c.1.hop)) (path_none [] c.0.via.peer.asn c.1.path e))
 
-pub length_some : (c : Place × Offer) → 0 < c.1.path → c.1.path < 64 → length (attributes_of c) ≡ 5 + 4 * c.1.path + length (hop_attribute c.1.hop)
+pub length_some : (c : Place × PathAttrs) → 0 < c.1.path → c.1.path < 64 → length (attributes_of c) ≡ 5 + 4 * c.1.path + length (hop_attribute c.1.hop)
 unfolding attributes_of
 length_some c some few = omega (arith, length-append (path_attribute c.0.via.peer.asn c.1.path) (hop_attribute c.1.hop), length_short c.0.via.peer.asn c.1.path some few)
 

@@ -5,7 +5,7 @@ use Rattle.std.specs.List.{AllByRecursion, list_any}
 use Rattle.std.specs.Ordering.{is_eq}
 use Rattle.route_model.specs.Events.{IsPeer, Peer, peer_cmp, same_peer}
 use Rattle.route_model.proofs.Places.{peer_key}
-use Rattle.saved_model.proofs.Sharing.{stays_in}
+use Rattle.mrt_write.proofs.Sharing.{stays_in}
 use Rattle.fib_prefix.specs.Views.{cand_as, peer_as}
 use Rattle.fib_prefix.specs.Order.{code_peer_cmp}
 use Rattle.fib_prefix.specs.declared.event.Cand.{Cand}

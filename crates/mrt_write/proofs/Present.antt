@@ -11,8 +11,8 @@ use Rattle.route_model.specs.Events.{Peer, IsPeer, same_peer, peer_cmp}
 use Rattle.route_model.specs.Choice.{Candidates}
 use Rattle.route_model.proofs.Places.{peer_key}
 use Rattle.fib_prefix.specs.Views.{peer_as}
-use Rattle.saved_model.specs.Saved.{peers_with_candidates, long_one, most_path}
-use Rattle.saved_model.proofs.Sharing.{stays_in, all_key}
+use Rattle.mrt_write.specs.Saved.{peers_with_candidates, long_one, most_path}
+use Rattle.mrt_write.proofs.Sharing.{stays_in, all_key}
 use Rattle.fib_prefix.specs.Views.{cand_as}
 use Rattle.table_model.specs.Width.{width}
 use Rattle.table_model.proofs.BitLaws.{length-bits_of}

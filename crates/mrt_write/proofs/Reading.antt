@@ -2,15 +2,15 @@
 use Rattle.std.proofs.Common.{◌≡◌, ◌≤◌, ◌+◌, List, [], ◌∷◌, ◌++◌, length, map, Some, None, Ok, refl, sym, ap, subst, ◌∙◌}
 use Rattle.std.specs.List.{AllByRecursion}
 use Rattle.route_model.specs.Choice.{AreCandidates, Candidates}
-use Rattle.reading_model.specs.Input.{Progress, input}
+use Rattle.wire_model.specs.Input.{Progress, input}
 use Rattle.fib_prefix.specs.Views.{IsOfOctets, cand_as}
 use Rattle.fib_prefix.specs.declared.event.Cand.{Cand}
 use Rattle.fib_prefix.proofs.Cands.{of_octets}
-use Rattle.saved_model.specs.Checkpoint.{announced, has_ids}
-use Rattle.saved_model.specs.Saved.{IsCode, long_one, most_peers, peers_with_candidates, pieces_of, saved}
-use Rattle.saved_model.proofs.Records.{checkpoint_read}
-use Rattle.saved_model.proofs.Sharing.{all_there, all_writable}
-use Rattle.saved_model.proofs.Held.{held_again, said_again}
+use Rattle.mrt_write.specs.Checkpoint.{announced, has_ids}
+use Rattle.mrt_write.specs.Saved.{IsCode, long_one, most_peers, peers_with_candidates, pieces_of, saved}
+use Rattle.mrt_write.proofs.Records.{checkpoint_read}
+use Rattle.mrt_write.proofs.Sharing.{all_there, all_writable}
+use Rattle.mrt_write.proofs.Held.{held_again, said_again}
 use Rattle.mrt_write.specs.Reads.{ReadsAs, after_events}
 
 all_code : (held : Candidates) → AllByRecursion IsOfOctets held → AllByRecursion IsCode held

@@ -10,7 +10,7 @@ use Rattle.table_model.specs.Address.{IsPrefix, same_prefix}
 use Rattle.wire_model.specs.Record.{most_length}
 use Rattle.wire_model.specs.Wire.{octets_for}
 use Rattle.route_model.specs.Events.{Peer}
-use Rattle.route_model.specs.Choice.{Place, Offer}
+use Rattle.route_model.specs.Choice.{Place, PathAttrs}
 use Rattle.route_model.proofs.Keyed.{key_test}
 use Rattle.route_model.proofs.Places.{prefix_key}
 use Rattle.fib_addr.specs.Views.{prefix_as}
@@ -19,11 +19,11 @@ use Rattle.fib_addr.specs.OrderLaws.{tied}
 use Rattle.fib_addr.specs.contracts.prefix.PrefixPartialEq.TheImpl as prefix_eq
 use Rattle.fib_addr.proofs.Ordering.{cmp_is}
 use Rattle.fib_addr.proofs.Parts.{length_prefix}
-use Rattle.written_model.specs.Octets.{number_octets, prefix_octets}
-use Rattle.written_model.proofs.Fields.{length-number_octets}
-use Rattle.saved_model.specs.Entries.{entry_octets}
-use Rattle.saved_model.specs.Checkpoint.{Piece, most_entries, piece_body}
-use Rattle.saved_model.specs.Saved.{has_place, with_candidate}
+use Rattle.wire_model.specs.Octets.{number_octets, prefix_octets}
+use Rattle.wire_model.proofs.Fields.{length-number_octets}
+use Rattle.mrt_write.specs.Entries.{entry_octets}
+use Rattle.mrt_write.specs.Checkpoint.{Piece, most_entries, piece_body}
+use Rattle.mrt_write.specs.Saved.{has_place, with_candidate}
 use Rattle.fib_prefix.specs.Views.{cand_as}
 use Rattle.fib_prefix.specs.declared.event.Cand as code_cand
 use Rattle.mrt_write.proofs.Written.{ceiling}
@@ -48,11 +48,11 @@ length_written p =
     fewer : (n w : ℕ) → n ≤ w → octets_for n ≤ octets_for w
     fewer n w h = omega arith
 
-length_more : (peers : List Peer) (ids : Bool) (cs : List (Place × Offer)) (c : Place × Offer) → length (flat_map (entry_octets peers ids) (cs ++ c ∷ [])) ≡ length (flat_map (entry_octets peers ids) cs) + length (entry_octets peers ids c)
+length_more : (peers : List Peer) (ids : Bool) (cs : List (Place × PathAttrs)) (c : Place × PathAttrs) → length (flat_map (entry_octets peers ids) (cs ++ c ∷ [])) ≡ length (flat_map (entry_octets peers ids) cs) + length (entry_octets peers ids c)
 length_more peers ids [] c = omega (arith, length-append (entry_octets peers ids c) [])
 length_more peers ids (x ∷ cs) c = omega (arith, length-append (entry_octets peers ids x) (flat_map (entry_octets peers ids) (cs ++ c ∷ [])), length-append (entry_octets peers ids x) (flat_map (entry_octets peers ids) cs), length_more peers ids cs c)
 
-length_grown : (peers : List Peer) (ids : Bool) (p : Piece) (c : Place × Offer) → length (piece_body peers ids 0 (with_candidate p c)) ≡ 6 + length (prefix_octets p.prefix) + length (flat_map (entry_octets peers ids) p.candidates) + length (entry_octets peers ids c)
+length_grown : (peers : List Peer) (ids : Bool) (p : Piece) (c : Place × PathAttrs) → length (piece_body peers ids 0 (with_candidate p c)) ≡ 6 + length (prefix_octets p.prefix) + length (flat_map (entry_octets peers ids) p.candidates) + length (entry_octets peers ids c)
 unfolding piece_body
 length_grown peers ids p c =
     let entries = flat_map (entry_octets peers ids) (p.candidates ++ c ∷ []) in

@@ -11,16 +11,16 @@ use Rattle.table_model.specs.Order.{filled}
 use Rattle.table_model.specs.Width.{width}
 use Rattle.table_model.proofs.BitLaws.{length-bits_of, value-bits_of, value-append, value-zeros, bits_take}
 use Rattle.wire_model.specs.Wire.{octets_for}
-use Rattle.written_model.specs.Octets.{number_octets, prefix_octets, as_path_octets, record_octets}
-use Rattle.saved_model.specs.Checkpoint.{Piece, rib_subtype, piece_body, piece_record}
-use Rattle.written_model.specs.Octets.{behind_length}
-use Rattle.written_model.proofs.Fields.{length-number_octets}
-use Rattle.saved_model.proofs.Sharing.{length_prefix}
+use Rattle.wire_model.specs.Octets.{number_octets, prefix_octets, as_path_octets, record_octets}
+use Rattle.mrt_write.specs.Checkpoint.{Piece, rib_subtype, piece_body, piece_record}
+use Rattle.wire_model.specs.Octets.{behind_length}
+use Rattle.wire_model.proofs.Fields.{length-number_octets}
+use Rattle.mrt_write.proofs.Sharing.{length_prefix}
 use Rattle.std.proofs.lemmas.List.{length-append}
-use Rattle.written_model.specs.Octets.{address_octets}
-use Rattle.saved_model.specs.Entries.{path_octets, path_attribute, id_octets, attributes_of, peer_index, entry_octets}
+use Rattle.wire_model.specs.Octets.{address_octets}
+use Rattle.mrt_write.specs.Entries.{path_octets, path_attribute, id_octets, attributes_of, peer_index, entry_octets}
 use Rattle.route_model.specs.Events.{Peer}
-use Rattle.route_model.specs.Choice.{Place, Offer}
+use Rattle.route_model.specs.Choice.{Place, PathAttrs}
 use Rattle.std.proofs.lemmas.Bool.{ne_eqb, lt-ltb, le-ltb}
 use Rattle.fib_addr.specs.Views.{addr_as, prefix_as}
 use Rattle.mrt_write.specs.Views.{as_path_of}
@@ -136,7 +136,7 @@ no_id before ids id e = sym (append-nil before) ∙ ap (λ b. before ++ id_octet
 pub part_is : (deref part cleared list : List ℕ) → deref ≡ part → part ≡ cleared ++ list → cleared ≡ [] → deref ≡ list
 part_is deref part cleared list e h k = e ∙ (h ∙ ap (λ xs. xs ++ list) k)
 
-pub entry_put : (before a b d part : List ℕ) (index : ℕ) (ids : Bool) (c : Place × Offer) (peers : List Peer) → a ≡ before ++ number_octets 2 index → b ≡ a ++ number_octets 4 0 → d ≡ b ++ id_octets ids c.0.via.id → part ≡ attributes_of c → peer_index peers c.0.via.peer ≡ index
+pub entry_put : (before a b d part : List ℕ) (index : ℕ) (ids : Bool) (c : Place × PathAttrs) (peers : List Peer) → a ≡ before ++ number_octets 2 index → b ≡ a ++ number_octets 4 0 → d ≡ b ++ id_octets ids c.0.via.id → part ≡ attributes_of c → peer_index peers c.0.via.peer ≡ index
     → d ++ behind_length part ≡ before ++ entry_octets peers ids c
 unfolding entry_octets
 entry_put before a b d part index ids c peers e1 e2 e3 e4 e5 = rw (e4, e3, e2, e1, e5) (simp append_assoc refl)

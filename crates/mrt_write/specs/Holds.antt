@@ -1,11 +1,11 @@
 -- What an open record holds, and how it goes on.
 use Rattle.std.specs.Prelude.{◌≡◌, ℕ, Bool, Option, Some, None, List, ◌∷◌, ◌++◌, length, flat_map}
 use Rattle.route_model.specs.Events.{Peer}
-use Rattle.route_model.specs.Choice.{Place, Offer, Candidates}
+use Rattle.route_model.specs.Choice.{Place, PathAttrs, Candidates}
 use Rattle.fib_addr.specs.Views.{prefix_as}
-use Rattle.saved_model.specs.Entries.{entry_octets}
-use Rattle.saved_model.specs.Checkpoint.{Piece, piece_records}
-use Rattle.saved_model.specs.Saved.{pieces_from, pieces_of}
+use Rattle.mrt_write.specs.Entries.{entry_octets}
+use Rattle.mrt_write.specs.Checkpoint.{Piece, piece_records}
+use Rattle.mrt_write.specs.Saved.{pieces_from, pieces_of}
 use Rattle.mrt_write.specs.declared.growing.Open.{Open}
 
 -- the record holds the candidates of this piece
@@ -21,7 +21,7 @@ pub record OpenLeadsTo (peers : List Peer) (ids : Bool) (o : Open) (out : List �
   pub makes : out ++ piece_records peers ids o.number (pieces_from peers ids piece rest) ≡ whole
 
 -- a candidate whose entry has these octets is taken, whatever follows
-abbrev pub OpenTakes : Bool → Place × Offer → List ℕ → Open → List ℕ → Open → List ℕ → Type 0
+abbrev pub OpenTakes : Bool → Place × PathAttrs → List ℕ → Open → List ℕ → Open → List ℕ → Type 0
 OpenTakes ids c entry old before new after = (peers : List Peer) (rest : Candidates) (whole : List ℕ) → entry ≡ entry_octets peers ids c → OpenLeadsTo peers ids old before (c ∷ rest) whole → OpenLeadsTo peers ids new after rest whole
 
 -- the same, if there may be no record yet

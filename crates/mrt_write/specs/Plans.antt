@@ -6,17 +6,17 @@ use Rattle.std.specs.List.Sorted.{IsStrictlySortedBy}
 use Rattle.fib_prefix.specs.Order.{code_peer_cmp}
 use Rattle.fib_prefix.specs.Views.{cand_as, peer_as}
 use Rattle.fib_prefix.specs.declared.event.Cand.{Cand}
-use Rattle.saved_model.specs.Checkpoint.{has_ids}
-use Rattle.saved_model.specs.Saved.{peers_with_candidates, most_peers, long_one, saved}
+use Rattle.mrt_write.specs.Checkpoint.{has_ids}
+use Rattle.mrt_write.specs.Saved.{peers_with_candidates, most_peers, long_one, saved}
 use Rattle.mrt_write.specs.Answers.{WriterAnswers}
 use Rattle.mrt_write.specs.Met.{AreAmong}
-use Rattle.mrt_write.specs.Dumps.{Writes}
+use Rattle.mrt_write.specs.Dumps.{WritesDump}
 use Rattle.mrt_write.specs.declared.plan.DumpPlan.{DumpPlan}
 use Rattle.mrt_write.specs.declared.dump.DumpWriter.{DumpWriter}
 use Rattle.mrt_write.specs.declared.write.WriteError.{WriteError}
 
 -- which peers have one, whether any has a path identifier, and the first whose path is too long
-pub record Knows (plan : DumpPlan) (cands : List Cand) : Type 0 where
+pub record PlansDump (plan : DumpPlan) (cands : List Cand) : Type 0 where
   pub peers : map peer_as plan.peers.keys ≡ peers_with_candidates (map cand_as cands)
   pub ids : plan.ids ≡ has_ids (map cand_as cands)
   pub long : option_map cand_as plan.long ≡ long_one (map cand_as cands)
@@ -28,17 +28,17 @@ pub record HasMet (plan : DumpPlan) : Type 0 where
 
 -- it knows of these candidates, behind all of which it knew
 abbrev pub Learns : DumpPlan → List Cand → DumpPlan → Type 0
-Learns before cands now = (old : List Cand) → Knows before old → Knows now (old ++ cands)
+Learns before cands now = (old : List Cand) → PlansDump before old → PlansDump now (old ++ cands)
 
 -- Checkpoint begun, which becomes that of the candidates once they were put into it; or why there is none.
 abbrev pub PlanAnswers : Candidates → Result DumpWriter WriteError → Type 0
-PlanAnswers held (Ok w) = (length (peers_with_candidates held) ≤ most_peers) × (long_one held ≡ None) × Writes w held (saved held)
+PlanAnswers held (Ok w) = (length (peers_with_candidates held) ≤ most_peers) × (long_one held ≡ None) × WritesDump w held (saved held)
 PlanAnswers held (Err error) = WriterAnswers {A = ℕ} held (Err error)
 
 -- ---- candidates behind candidates
 
 pub learns_none : (a : DumpPlan) → Learns a [] a
-learns_none a = λ old k. subst (Knows a) (sym (append-nil old)) k
+learns_none a = λ old k. subst (PlansDump a) (sym (append-nil old)) k
 
 pub learns_more : (a b c : DumpPlan) (cands more : List Cand) → Learns a cands b → Learns b more c → Learns a (cands ++ more) c
-learns_more a b c cands more first next = λ old k. subst (Knows c) (append_assoc old cands more) (next (old ++ cands) (first old k))
+learns_more a b c cands more first next = λ old k. subst (PlansDump c) (append_assoc old cands more) (next (old ++ cands) (first old k))

@@ -2,7 +2,7 @@
 use Rattle.std.specs.Prelude.{◌≡◌, ℕ, List, [], ◌++◌, Ok}
 use Rattle.route_model.specs.Events.{Event}
 use Rattle.route_model.specs.Choice.{Candidates, after_elems, elems_after}
-use Rattle.reading_model.specs.Input.{Progress, input}
+use Rattle.wire_model.specs.Input.{Progress, input}
 
 -- the candidates after events
 abbrev pub after_events : Candidates → List Event → Candidates

@@ -1,6 +1,6 @@
 -- What a clause sees of attributes.
 use Rattle.std.specs.Prelude.{ℕ, List, ◌∷◌, length, nat_lt, if◌then◌else◌}
-use Rattle.written_model.specs.Octets.{behind_length}
+use Rattle.wire_model.specs.Octets.{behind_length}
 
 -- an AS_PATH of this value
 abbrev pub as_path_of : List ℕ → List ℕ

@@ -1,15 +1,15 @@
 //! The path attributes of a candidate.
 
 ghost use Rattle.std.specs.Prelude.{◌≡◌, ◌≤◌, ◌<◌, ◌+◌, ◌*◌, ◌^◌, ◌++◌, ◌∷◌, [], length, flat_map, replicate, OnOk};
-ghost use Rattle.written_model.specs.Octets.{number_octets, as_path_octets};
+ghost use Rattle.wire_model.specs.Octets.{number_octets, as_path_octets};
 ghost use Rattle.fib_addr.specs.Views.{addr_as};
 ghost use Rattle.mrt_write.specs.Views.{as_path_of};
-ghost use Rattle.saved_model.specs.Entries.{path_octets, path_attribute, hop_attribute};
+ghost use Rattle.mrt_write.specs.Entries.{path_octets, path_attribute, hop_attribute};
 
 use crate::field::put_addr;
 use fib_addr::{Addr, Family};
-use octet_put::{put_behind_length, put_sequence};
 use std::alloc::AllocError;
+use wire_model::{put_behind_length, put_sequence};
 
 /// A path below this is one sequence of less than 256 octets.
 pub const SHORT_PATH: u32 = 64;

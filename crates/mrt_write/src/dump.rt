@@ -4,10 +4,10 @@ ghost use Rattle.std.specs.Prelude.{◌≡◌, ◌≤◌, ◌++◌, List, [], �
 ghost use Rattle.std.specs.List.Sorted.{IsStrictlySortedBy};
 ghost use Rattle.fib_prefix.specs.Order.{code_peer_cmp};
 ghost use Rattle.fib_prefix.specs.Views.{cand_as, peer_as};
-ghost use Rattle.saved_model.specs.Entries.{entry_octets};
-ghost use Rattle.saved_model.specs.Checkpoint.{table_body};
-ghost use Rattle.written_model.specs.Octets.{record_octets};
-ghost use Rattle.mrt_write.specs.Dumps.{IsBegun, IsReady, Puts, Writes, puts_more, puts_none};
+ghost use Rattle.mrt_write.specs.Entries.{entry_octets};
+ghost use Rattle.mrt_write.specs.Checkpoint.{table_body};
+ghost use Rattle.wire_model.specs.Octets.{record_octets};
+ghost use Rattle.mrt_write.specs.Dumps.{IsTableWritten, CanPut, PutsCands, WritesDump, puts_more, puts_none};
 
 use crate::entry::{Scratch, put_entry};
 use crate::growing::{Open, opened};
@@ -16,12 +16,11 @@ use crate::met::Guesses;
 use crate::peers::put_table;
 use crate::record::put_rib;
 use crate::write::MOST_PATH;
-use cand_rows::CandSink;
-use fib_prefix::{Cand, Peer};
-use octet_put::put_record;
+use fib_prefix::{Cand, CandSink, Peer};
 use std::alloc::{AllocError, Global};
+use wire_model::put_record;
 
-/// A checkpoint that candidates are being put into, in the order of prefixes, then of ways, each once: an MRT dump that is read as
+/// A checkpoint that candidates are being put into, in the order of prefixes, then of path sources, each once: an MRT dump that is read as
 /// exactly these (`saved_model`). Its octets are in memory, some 30 a candidate.
 ///
 /// A candidate of another peer than the plan's, or with a path that is too long, is left out.
@@ -47,7 +46,7 @@ impl DumpWriter {
         ids: bool,
     ) -> Result<DumpWriter, AllocError>
         requires few { length peers.items ≤ 65535 }
-        ensures { IfOk result (IsBegun peers.items ids) }
+        ensures { IfOk result (IsTableWritten peers.items ids) }
     {
         let mut body = Vec::new(alloc);
         put_table(&peers, &mut body)?;
@@ -68,12 +67,12 @@ impl DumpWriter {
 
     /// Adds the entry of the next candidate, to the open record or to a new one.
     fn take_entry(&mut self, cand: &Cand) -> Result<(), AllocError>
-        requires ready { IsReady self.old }
+        requires ready { CanPut self.old }
         requires short { length self.old.next.items ≤ 65548 }
-        ensures ready { OnOk result (IsReady self.new) }
+        ensures ready { OnOk result (CanPut self.new) }
         ensures puts { OnOk result (self.old.next.items
             ≡ entry_octets (map peer_as self.old.peers.items) self.old.ids (cand_as cand.now)
-            → Puts self.old (cand.now ∷ []) self.new) }
+            → PutsCands self.old (cand.now ∷ []) self.new) }
     {
         match &mut self.open {
             Some(open) => open.take(self.ids, cand, &self.next, &mut self.body, &mut self.out),
@@ -90,8 +89,8 @@ impl DumpWriter {
     ///
     /// No memory.
     pub fn finish(self) -> Result<Vec<u8>, AllocError>
-        requires { IsReady self }
-        ensures { IfOk result (λ octets. (whole : List ℕ) → Writes self [] whole → octets.items ≡ whole) }
+        requires { CanPut self }
+        ensures { IfOk result (λ octets. (whole : List ℕ) → WritesDump self [] whole → octets.items ≡ whole) }
     {
         let DumpWriter {
             ids,
@@ -116,9 +115,9 @@ impl DumpWriter {
 }
 
 impl CandSink for DumpWriter {
-    ghost ready = { IsReady };
+    ghost ready = { CanPut };
 
-    ghost takes = { Puts };
+    ghost takes = { PutsCands };
 
     ghost none = { λ a ready. puts_none a };
 

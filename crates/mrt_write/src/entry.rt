@@ -4,13 +4,13 @@ ghost use Rattle.std.specs.Prelude.{◌≡◌, ◌≤◌, ◌<◌, ◌++◌, [],
 ghost use Rattle.fib_prefix.specs.Views.{cand_as, peer_as};
 ghost use Rattle.std.specs.Prelude.{List};
 ghost use Rattle.route_model.specs.Events.{Peer};
-ghost use Rattle.written_model.specs.Octets.{behind_length};
-ghost use Rattle.saved_model.specs.Entries.{attributes_of, entry_octets, id_octets, peer_index};
+ghost use Rattle.wire_model.specs.Octets.{behind_length};
+ghost use Rattle.mrt_write.specs.Entries.{attributes_of, entry_octets, id_octets, peer_index};
 
 use crate::attribute::{SHORT_PATH, put_as_path, put_hop};
 use fib_prefix::{Cand, Family};
-use octet_put::{put_behind_length, put_u16, put_u32};
 use std::alloc::{AllocError, Global};
+use wire_model::{put_behind_length, put_u16, put_u32};
 
 /// Puts a candidate's attributes.
 fn put_attributes(cand: &Cand, value: &mut Vec<u8>, out: &mut Vec<u8>) -> Result<(), AllocError>

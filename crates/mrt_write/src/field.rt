@@ -2,11 +2,11 @@
 
 ghost use Rattle.std.specs.Prelude.{◌≡◌, ◌++◌, OnOk};
 ghost use Rattle.fib_addr.specs.Views.{addr_as, prefix_as};
-ghost use Rattle.written_model.specs.Octets.{address_octets, prefix_octets};
+ghost use Rattle.wire_model.specs.Octets.{address_octets, prefix_octets};
 
 use fib_addr::{Addr, Family, Prefix};
-use octet_put::{put_bits, put_u32};
 use std::alloc::AllocError;
+use wire_model::{put_bits, put_u32};
 
 /// Puts an address.
 pub fn put_addr(addr: &Addr, out: &mut Vec<u8>) -> Result<(), AllocError>

@@ -4,9 +4,9 @@ ghost use Rattle.std.specs.Prelude.{◌≡◌, ◌≤◌, ◌<◌, ◌+◌, ◌^
 ghost use Rattle.route_model.specs.Events.{Peer};
 ghost use Rattle.route_model.specs.Choice.{Candidates};
 ghost use Rattle.fib_addr.specs.Views.{prefix_as};
-ghost use Rattle.saved_model.specs.Entries.{entry_octets};
-ghost use Rattle.saved_model.specs.Checkpoint.{Piece, piece_records};
-ghost use Rattle.saved_model.specs.Saved.{has_place, pieces_from};
+ghost use Rattle.mrt_write.specs.Entries.{entry_octets};
+ghost use Rattle.mrt_write.specs.Checkpoint.{Piece, piece_records};
+ghost use Rattle.mrt_write.specs.Saved.{has_place, pieces_from};
 ghost use Rattle.fib_prefix.specs.Views.{cand_as};
 ghost use Rattle.mrt_write.specs.Holds.{OpenHolds, OpenTakes};
 

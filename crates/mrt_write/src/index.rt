@@ -6,7 +6,7 @@ ghost use Rattle.std.specs.List.Sorted.{IsStrictlySortedBy};
 ghost use Rattle.route_model.specs.Events.{same_peer};
 ghost use Rattle.fib_prefix.specs.Order.{code_peer_cmp};
 ghost use Rattle.fib_prefix.specs.Views.{peer_as};
-ghost use Rattle.mrt_write.specs.Dumps.{IsIndex, HasNoIndex};
+ghost use Rattle.mrt_write.specs.Dumps.{IsPeerIndex, HasNoIndex};
 
 use fib_prefix::Peer;
 
@@ -15,7 +15,7 @@ fn index_of(list: &[Peer], peer: &Peer) -> Option<u16>
     requires sorted { IsStrictlySortedBy code_peer_cmp list.now }
     requires few { length list.now ≤ 65535 }
     ensures { MatchOption result (HasNoIndex (map peer_as list.now) (peer_as peer.now))
-        (IsIndex (map peer_as list.now) (peer_as peer.now)) }
+        (IsPeerIndex (map peer_as list.now) (peer_as peer.now)) }
 {
     match list.binary_search(peer) {
         Ok(place) => Some(place as u16),
@@ -28,7 +28,7 @@ pub fn index_near(list: &[Peer], peer: &Peer, guess: u16) -> Option<u16>
     requires sorted { IsStrictlySortedBy code_peer_cmp list.now }
     requires few { length list.now ≤ 65535 }
     ensures { MatchOption result (HasNoIndex (map peer_as list.now) (peer_as peer.now))
-        (IsIndex (map peer_as list.now) (peer_as peer.now)) }
+        (IsPeerIndex (map peer_as list.now) (peer_as peer.now)) }
 {
     let near = usize::from(guess);
     if near < list.len() && list[near].cmp(peer).is_eq() {

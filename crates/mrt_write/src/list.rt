@@ -8,12 +8,11 @@ ghost use Rattle.mrt_write.specs.Reads.{ReadsAs};
 
 use crate::plan::DumpPlan;
 use crate::write::WriteError;
-use cand_rows::CandSink;
-use fib_prefix::Cand;
+use fib_prefix::{Cand, CandSink};
 use std::alloc::{AllocError, Global};
 
 /// Hands on the candidates of a list.
-fn hand_list<S: CandSink>(cands: &[Cand], out: &mut S) -> Result<(), AllocError>
+fn emit_list<S: CandSink>(cands: &[Cand], out: &mut S) -> Result<(), AllocError>
     requires { S.ready out.old }
     ensures ready { OnOk result (S.ready out.new) }
     ensures takes { OnOk result (S.takes out.old cands.now out.new) }
@@ -24,7 +23,7 @@ fn hand_list<S: CandSink>(cands: &[Cand], out: &mut S) -> Result<(), AllocError>
     Ok(())
 }
 
-/// The checkpoint of a list of candidates. If they are in the order of prefixes, then of ways, each once, as `Candidates::all` of
+/// The checkpoint of a list of candidates. If they are in the order of prefixes, then of path sources, each once, as `Candidates::all` of
 /// `route_choice` has them, it is an MRT dump that is read as exactly these; in any other order they are written in that order.
 /// Its octets are in memory, some 30 a candidate.
 ///
@@ -37,9 +36,9 @@ pub fn write_dump(alloc: Global, cands: &[Cand]) -> Result<Vec<u8>, WriteError>
         → IfOk result (λ octets. ReadsAs octets.items (map cand_as cands.now)) }
 {
     let mut plan = DumpPlan::new(alloc);
-    hand_list(cands, &mut plan)?;
+    emit_list(cands, &mut plan)?;
     let mut dump = plan.begin()?;
-    hand_list(cands, &mut dump)?;
+    emit_list(cands, &mut dump)?;
     let octets = dump.finish()?;
     Ok(octets)
 }

@@ -4,15 +4,15 @@ ghost use Rattle.std.specs.Prelude.{◌≡◌, ◌≤◌, ◌++◌, length, map,
 ghost use Rattle.std.specs.List.Sorted.{IsStrictlySortedBy};
 ghost use Rattle.fib_prefix.specs.Order.{code_peer_cmp};
 ghost use Rattle.fib_prefix.specs.Views.{cand_as, peer_as};
-ghost use Rattle.saved_model.specs.Entries.{table_peer};
-ghost use Rattle.saved_model.specs.Checkpoint.{table_body};
-ghost use Rattle.saved_model.specs.Saved.{peers_with_candidates};
+ghost use Rattle.mrt_write.specs.Entries.{table_peer};
+ghost use Rattle.mrt_write.specs.Checkpoint.{table_body};
+ghost use Rattle.mrt_write.specs.Saved.{peers_with_candidates};
 
 use crate::field::put_addr;
 use fib_prefix::{Cand, Family, Peer};
-use octet_put::{put_u16, put_u32};
 use std::alloc::{AllocError, Global};
 use std::collections::BTreeSet;
+use wire_model::{put_u16, put_u32};
 
 /// Puts a peer: its type, by which the AS has four octets, BGP ID 0, its address and its AS (RFC 6396, section 4.3.1).
 pub fn put_peer(peer: &Peer, out: &mut Vec<u8>) -> Result<(), AllocError>

@@ -4,17 +4,16 @@ ghost use Rattle.std.specs.Prelude.{◌≡◌, ◌||◌, List, [], ◌∷◌, ma
 ghost use Rattle.std.specs.Option.{option_or};
 ghost use Rattle.fib_prefix.specs.declared.event.Cand.{Cand as CodeCand};
 ghost use Rattle.fib_prefix.specs.Views.{cand_as};
-ghost use Rattle.saved_model.specs.Checkpoint.{has_ids};
-ghost use Rattle.saved_model.specs.Saved.{long_one};
-ghost use Rattle.mrt_write.specs.Dumps.{IsReady};
-ghost use Rattle.mrt_write.specs.Plans.{HasMet, Knows, Learns, PlanAnswers, learns_more, learns_none};
+ghost use Rattle.mrt_write.specs.Checkpoint.{has_ids};
+ghost use Rattle.mrt_write.specs.Saved.{long_one};
+ghost use Rattle.mrt_write.specs.Dumps.{CanPut};
+ghost use Rattle.mrt_write.specs.Plans.{HasMet, PlansDump, Learns, PlanAnswers, learns_more, learns_none};
 
 use crate::dump::DumpWriter;
 use crate::met::Met;
 use crate::peers::listed;
 use crate::write::{MOST_PATH, MOST_PEERS, WriteError};
-use cand_rows::CandSink;
-use fib_prefix::{Cand, Peer};
+use fib_prefix::{Cand, CandSink, Peer};
 use std::alloc::{AllocError, Global};
 use std::collections::BTreeSet;
 
@@ -53,7 +52,7 @@ fn keep_long(long: &mut Option<Cand>, cand: &Cand)
 impl DumpPlan {
     /// A plan for no candidate.
     pub fn new(alloc: Global) -> DumpPlan
-        ensures knows { Knows result [] }
+        ensures knows { PlansDump result [] }
         ensures ready { HasMet result }
     {
         DumpPlan {
@@ -71,8 +70,8 @@ impl DumpPlan {
     ///
     /// More than 65,535 peers have a candidate; else the first candidate whose path is longer than 15,000; else no memory.
     pub fn begin(&self) -> Result<DumpWriter, WriteError>
-        ensures ready { IfOk result IsReady }
-        ensures answers { (cands : List CodeCand) → Knows self.now cands
+        ensures ready { IfOk result CanPut }
+        ensures answers { (cands : List CodeCand) → PlansDump self.now cands
             → PlanAnswers (map cand_as cands) result }
     {
         let peers = listed(self.alloc, &self.peers)?;

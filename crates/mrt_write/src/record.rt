@@ -4,14 +4,14 @@ ghost use Rattle.std.specs.Prelude.{◌≡◌, ◌≤◌, ◌<◌, ◌+◌, ◌^
 ghost use Rattle.table_model.specs.Address.{Prefix};
 ghost use Rattle.route_model.specs.Events.{Peer};
 ghost use Rattle.fib_addr.specs.Views.{prefix_as};
-ghost use Rattle.written_model.specs.Octets.{record_octets};
-ghost use Rattle.saved_model.specs.Entries.{entry_octets};
-ghost use Rattle.saved_model.specs.Checkpoint.{Piece, piece_record, rib_subtype};
+ghost use Rattle.wire_model.specs.Octets.{record_octets};
+ghost use Rattle.mrt_write.specs.Entries.{entry_octets};
+ghost use Rattle.mrt_write.specs.Checkpoint.{Piece, piece_record, rib_subtype};
 
 use crate::field::put_prefix;
 use fib_addr::{Family, Prefix};
-use octet_put::{put_record, put_u16, put_u32};
 use std::alloc::AllocError;
+use wire_model::{put_record, put_u16, put_u32};
 
 /// The subtype of a RIB record.
 fn subtype_of(ids: bool, family: Family) -> u16

@@ -10,7 +10,7 @@ use Rattle.table_model.specs.Table.{Table, lpm}
 use Rattle.table_model.specs.Entries.{Entries, of_family, of_table, match_in}
 use Rattle.table_model.specs.Uniform.{AllGet, TwoDiffer}
 use Rattle.fib_addr.specs.declared.prefix.Prefix as code
-use Rattle.orig_tree.specs.Views.{InPlace, Fits}
+use Rattle.orig_tree.specs.Views.{InPlace, FitsWidth}
 use Rattle.orig_tree.specs.Uniform.{EachGets, TwoGet, IsUniform}
 use Rattle.orig_tree.proofs.Places.{family_is}
 use Rattle.orig_tree.proofs.Telling.{fits_in_place}
@@ -47,13 +47,13 @@ two_differ f p L E v (a, b, la, lb, pa, pb, d) = record {
 
 -- the answers about a path, as those about a prefix
 module _ (f g : Family) (p s : List Bool) (L : Table) (E : Entries) (r : Option ℕ) where
-  pub asked_one : (k : ℕ) → g ≡ f → p ≡ s → of_table f L ≡ E → r ≡ Some k → InPlace (of_table f L) → (Fits (width f) L → IsUniform (width f) L 0 p r) → AllGet E (record { family = g; bits = s }) k
+  pub asked_one : (k : ℕ) → g ≡ f → p ≡ s → of_table f L ≡ E → r ≡ Some k → InPlace (of_table f L) → (FitsWidth (width f) L → IsUniform (width f) L 0 p r) → AllGet E (record { family = g; bits = s }) k
   asked_one k e q v o i u =
       subst (λ (h : Family). AllGet E (record { family = h; bits = s }) k) (sym e)
       (subst (λ (t : List Bool). AllGet E (record { family = f; bits = t }) k) q
       (all_get f p L E k v (subst (λ (x : Option ℕ). IsUniform (width f) L 0 p x) o (u (fits_in_place f L i.0)))))
 
-  pub asked_none : g ≡ f → p ≡ s → of_table f L ≡ E → r ≡ None → InPlace (of_table f L) → (Fits (width f) L → IsUniform (width f) L 0 p r) → TwoDiffer E (record { family = g; bits = s })
+  pub asked_none : g ≡ f → p ≡ s → of_table f L ≡ E → r ≡ None → InPlace (of_table f L) → (FitsWidth (width f) L → IsUniform (width f) L 0 p r) → TwoDiffer E (record { family = g; bits = s })
   asked_none e q v o i u =
       subst (λ (h : Family). TwoDiffer E (record { family = h; bits = s })) (sym e)
       (subst (λ (t : List Bool). TwoDiffer E (record { family = f; bits = t })) q

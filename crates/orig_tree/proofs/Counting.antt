@@ -5,7 +5,7 @@ use Rattle.std.specs.List.{filter}
 use Rattle.std.proofs.lemmas.List.{length-append}
 use Rattle.table_model.specs.Bits.{begins, bits_of}
 use Rattle.orig_tree.specs.Walk.{Walks, walks_of}
-use Rattle.orig_tree.specs.Arena.{node_at, half_place, from_half, walks_at, walks_by}
+use Rattle.orig_tree.specs.Arena.{cell_at, half_place, from_half, walks_at, walks_by}
 use Rattle.orig_tree.specs.Within.{nodes_in, told}
 use Rattle.orig_tree.specs.declared.node.Node.{Node}
 use Rattle.orig_tree.proofs.Arena.{side_half}
@@ -27,7 +27,7 @@ told_sum m a b x y z e f g = omega (arith, e, f, g)
 pub count_end : (cells : List Node) (i depth : ℕ) → depth ≡ 0 → 1 ≡ told (length (walks_at (suc depth) cells i).nodes)
 unfolding walks_at
 count_end cells i zero z =
-    let n = node_at cells i in
+    let n = cell_at cells i in
     let F = walks_at zero cells in
     let all = count_level n.route.hop n.entry.hop (from_half F (half_place n false)) (from_half F (half_place n true)) in
     one_told (length (walks_by F n).nodes) (length (from_half F (half_place n false)).nodes) (length (from_half F (half_place n true)).nodes) all (none (half_place n false)) (none (half_place n true))
@@ -70,19 +70,19 @@ nodes_half true p route entry low high =
 nodes_half false p route entry low high =
     omega (arith, nodes_both (false ∷ p) (map (λ q. false ∷ q) low.nodes) (map (λ q. true ∷ q) high.nodes), nodes_none false true p high.nodes (λ e. cc), nodes_same false p low.nodes)
 
-module _ (cells : List Node) (i m depth : ℕ) (n : Node) (at : n ≡ node_at cells i) (dm : suc m ≡ depth) where
+module _ (cells : List Node) (i m depth : ℕ) (n : Node) (at : n ≡ cell_at cells i) (dm : suc m ≡ depth) where
   pub count_node : (lo ho : Option ℕ) (low high sum all : ℕ) → lo ≡ half_place n false → ho ≡ half_place n true →
       low ≡ told (length (from_half (walks_at (suc m) cells) lo).nodes) → high ≡ told (length (from_half (walks_at (suc m) cells) ho).nodes) →
       sum ≡ told (low + high) → all ≡ told (sum + 1) → all ≡ told (length (walks_at (suc depth) cells i).nodes)
   unfolding walks_at
   count_node lo ho low high sum all le he l h s a =
       let F = walks_at (suc m) cells in
-      let x = (from_half F (half_place (node_at cells i) false)).nodes in
-      let y = (from_half F (half_place (node_at cells i) true)).nodes in
+      let x = (from_half F (half_place (cell_at cells i) false)).nodes in
+      let y = (from_half F (half_place (cell_at cells i) true)).nodes in
       let l' : low ≡ told (length x) = l ∙ ap (λ o. told (length (from_half F o).nodes)) (le ∙ ap (λ n. half_place n false) at) in
       let h' : high ≡ told (length y) = h ∙ ap (λ o. told (length (from_half F o).nodes)) (he ∙ ap (λ n. half_place n true) at) in
       told_sum (2 ^ 64 - 1) (length x) (length y) low high all l' h' (a ∙ ap (λ k. told (k + 1)) s)
-      ∙ (ap told (sym (count_level (node_at cells i).route.hop (node_at cells i).entry.hop (from_half F (half_place (node_at cells i) false)) (from_half F (half_place (node_at cells i) true))))
+      ∙ (ap told (sym (count_level (cell_at cells i).route.hop (cell_at cells i).entry.hop (from_half F (half_place (cell_at cells i) false)) (from_half F (half_place (cell_at cells i) true))))
       ∙ ap (λ d. told (length (walks_at (suc d) cells i).nodes)) dm)
 
   pub within_is : (left q : ℕ) (b : Bool) (o : Option ℕ) → left ≢ 0 → b ≡ nat_eq (bit_at q (left - 1)) 1 → o ≡ half_place n b →
@@ -90,7 +90,7 @@ module _ (cells : List Node) (i m depth : ℕ) (n : Node) (at : n ≡ node_at ce
   unfolding walks_at
   within_is left q b o z bit oe =
       let F = walks_at (suc m) cells in
-      let nd = node_at cells i in
+      let nd = cell_at cells i in
       let P = bits_of (left - 1) q in
       ap (λ y. nodes_in P (from_half F y).nodes) (oe ∙ ap (λ n. half_place n b) at)
       ∙ (ap (λ (w : Walks). nodes_in P w.nodes) (side_half F nd b)

@@ -5,8 +5,8 @@ use Rattle.std.proofs.lemmas.Bool.{eqb-true, eqb-false}
 use Rattle.table_model.specs.Table.{Table, here}
 use Rattle.table_model.specs.Regions.{lift, join}
 use Rattle.table_model.proofs.Join.{lpm_join_low, lpm_join_high}
-use Rattle.orig_tree.specs.Views.{Fits}
-use Rattle.orig_tree.specs.Cover.{Shows, Allows, Within, SomeGets, ReachedBy, IsCover, both, stopped, covered}
+use Rattle.orig_tree.specs.Views.{FitsWidth}
+use Rattle.orig_tree.specs.Cover.{ShowsHop, Allows, Within, SomeGets, ReachedBy, IsCover, both, stopped, covered}
 use Rattle.orig_tree.specs.declared.cover.Cover.{Cover}
 use Rattle.orig_tree.specs.declared.cover.Hops.{Hops}
 use Rattle.orig_tree.specs.declared.cover.Hops.TheVariants.{Zero, One, Many}
@@ -20,39 +20,39 @@ bare_cover c p h = record {
 }
 
 -- what fits
-fits_front : (n : ℕ) (a b : Table) → Fits n (a ++ b) → Fits n a
+fits_front : (n : ℕ) (a b : Table) → FitsWidth n (a ++ b) → FitsWidth n a
 fits_front n [] b f = tt
 fits_front n (e ∷ a) b f = (f.0, fits_front n a b f.1)
 
-fits_back : (n : ℕ) (a b : Table) → Fits n (a ++ b) → Fits n b
+fits_back : (n : ℕ) (a b : Table) → FitsWidth n (a ++ b) → FitsWidth n b
 fits_back n [] b f = f
 fits_back n (e ∷ a) b f = fits_back n a b f.1
 
-fits_down : (b : Bool) (n : ℕ) (rows : Table) → Fits (suc n) (lift (b ∷ []) rows) → Fits n rows
+fits_down : (b : Bool) (n : ℕ) (rows : Table) → FitsWidth (suc n) (lift (b ∷ []) rows) → FitsWidth n rows
 fits_down b n [] f = tt
 fits_down b n (e ∷ es) f = (omega (arith, f.0), fits_down b n es f.1)
 
-fits_none : (b : Bool) (rows : Table) → Fits 0 (lift (b ∷ []) rows) → rows ≡ []
+fits_none : (b : Bool) (rows : Table) → FitsWidth 0 (lift (b ∷ []) rows) → rows ≡ []
 fits_none b [] f = refl
 fits_none b (e ∷ es) f = absurd (omega (arith, f.0))
 
-pub fits_low : (n : ℕ) (label : Option ℕ) (low high : Table) → Fits (suc n) (join label low high) → Fits n low
+pub fits_low : (n : ℕ) (label : Option ℕ) (low high : Table) → FitsWidth (suc n) (join label low high) → FitsWidth n low
 fits_low n label low high f = fits_down false n low (fits_front (suc n) (lift (false ∷ []) low) (lift (true ∷ []) high) (fits_back (suc n) (here label) _ f))
 
-pub fits_high : (n : ℕ) (label : Option ℕ) (low high : Table) → Fits (suc n) (join label low high) → Fits n high
+pub fits_high : (n : ℕ) (label : Option ℕ) (low high : Table) → FitsWidth (suc n) (join label low high) → FitsWidth n high
 fits_high n label low high f = fits_down true n high (fits_back (suc n) (lift (false ∷ []) low) (lift (true ∷ []) high) (fits_back (suc n) (here label) _ f))
 
-no_low : (label : Option ℕ) (low high : Table) → Fits 0 (join label low high) → low ≡ []
+no_low : (label : Option ℕ) (low high : Table) → FitsWidth 0 (join label low high) → low ≡ []
 no_low label low high f = fits_none false low (fits_front 0 (lift (false ∷ []) low) (lift (true ∷ []) high) (fits_back 0 (here label) _ f))
 
-no_high : (label : Option ℕ) (low high : Table) → Fits 0 (join label low high) → high ≡ []
+no_high : (label : Option ℕ) (low high : Table) → FitsWidth 0 (join label low high) → high ≡ []
 no_high label low high f = fits_none true high (fits_back 0 (lift (false ∷ []) low) (lift (true ∷ []) high) (fits_back 0 (here label) _ f))
 
 -- what a region with no rows must have as its cover
-not_shown : (a : List Bool) (g : ℕ) → Shows [] a (Some g) → ⊥
+not_shown : (a : List Bool) (g : ℕ) → ShowsHop [] a (Some g) → ⊥
 not_shown a g s = let e : 0 ≡ g = s 0 in let f : 1 ≡ g = s 1 in omega arith
 
-bare_passes_by : (c : Cover) (x : Option ℕ) → Shows [] [] x → Within c x → c.passes ≡ true
+bare_passes_by : (c : Cover) (x : Option ℕ) → ShowsHop [] [] x → Within c x → c.passes ≡ true
 bare_passes_by c None s w = w
 bare_passes_by c (Some g) s w = absurd (not_shown [] g s)
 
@@ -73,19 +73,19 @@ after None x = x
 after (Some g) None = Some g
 after (Some g) (Some k) = Some k
 
-shows_low : (label : Option ℕ) (low high : Table) (a : List Bool) (x : Option ℕ) → Shows low a x → Shows (join label low high) (false ∷ a) (after label x)
+shows_low : (label : Option ℕ) (low high : Table) (a : List Bool) (x : Option ℕ) → ShowsHop low a x → ShowsHop (join label low high) (false ∷ a) (after label x)
 shows_low None low high a None s = λ h. lpm_join_low None low high a h ∙ s h
 shows_low None low high a (Some k) s = λ h. lpm_join_low None low high a h ∙ s h
 shows_low (Some g) low high a None s = λ h. lpm_join_low (Some g) low high a h ∙ s g
 shows_low (Some g) low high a (Some k) s = λ h. lpm_join_low (Some g) low high a h ∙ s g
 
-shows_high : (label : Option ℕ) (low high : Table) (a : List Bool) (x : Option ℕ) → Shows high a x → Shows (join label low high) (true ∷ a) (after label x)
+shows_high : (label : Option ℕ) (low high : Table) (a : List Bool) (x : Option ℕ) → ShowsHop high a x → ShowsHop (join label low high) (true ∷ a) (after label x)
 shows_high None low high a None s = λ h. lpm_join_high None low high a h ∙ s h
 shows_high None low high a (Some k) s = λ h. lpm_join_high None low high a h ∙ s h
 shows_high (Some g) low high a None s = λ h. lpm_join_high (Some g) low high a h ∙ s g
 shows_high (Some g) low high a (Some k) s = λ h. lpm_join_high (Some g) low high a h ∙ s g
 
-shows_end : (label : Option ℕ) (low high : Table) → Shows (join label low high) [] (after label None)
+shows_end : (label : Option ℕ) (low high : Table) → ShowsHop (join label low high) [] (after label None)
 shows_end None low high = λ h. lpm_join_end None low high h
 shows_end (Some g) low high = λ h. lpm_join_end (Some g) low high h
 
@@ -169,7 +169,7 @@ module _ (r : ℕ → Type 0) where
   reached_stopped g true hops o w = reached_both hops (One g) w (o refl)
   reached_stopped g false hops o w = w
 
-reach_passed : (n : ℕ) (label : Option ℕ) (low high : Table) (cl ch : Cover) → IsCover low cl → IsCover high ch → Fits n low → Fits n high → (cl.passes || ch.passes) ≡ true → SomeGets (suc n) (join label low high) (after label None)
+reach_passed : (n : ℕ) (label : Option ℕ) (low high : Table) (cl ch : Cover) → IsCover low cl → IsCover high ch → FitsWidth n low → FitsWidth n high → (cl.passes || ch.passes) ≡ true → SomeGets (suc n) (join label low high) (after label None)
 reach_passed n label low high cl ch l h fl fh e =
     let P : Bool → Type 0 = λ t. cl.passes ≡ t → SomeGets (suc n) (join label low high) (after label None) in
     (elim cl.passes as P [
@@ -177,7 +177,7 @@ reach_passed n label low high cl ch l h fl fh e =
       | false ↦ λ t. reach_high n label low high None (h.passed n fh (sym (ap (λ u. u || ch.passes) t) ∙ e))
     ]) refl
 
-level_each : (label : Option ℕ) (low high : Table) (cl ch : Cover) → IsCover low cl → IsCover high ch → (n : ℕ) → Fits n (join label low high) → (a : List Bool) → length a ≡ n → (x : Option ℕ) × Shows (join label low high) a x × Within (covered label cl ch) x
+level_each : (label : Option ℕ) (low high : Table) (cl ch : Cover) → IsCover low cl → IsCover high ch → (n : ℕ) → FitsWidth n (join label low high) → (a : List Bool) → length a ≡ n → (x : Option ℕ) × ShowsHop (join label low high) a x × Within (covered label cl ch) x
 level_each label low high cl ch l h zero f [] e =
     let p = bare_passes cl (subst (λ (r : Table). IsCover r cl) (no_low label low high f) l) in
     (after label None, shows_end label low high, within_label label cl ch None (within_joined_left cl ch None p))
@@ -190,23 +190,23 @@ level_each label low high cl ch l h (suc n) f (true ∷ a) e =
     let t = h.each n (fits_high n label low high f) a (omega arith) in
     (after label t.0, shows_high label low high a t.0 t.1, within_label label cl ch t.0 (within_joined_right cl ch t.0 t.2))
 
-level_passed : (label : Option ℕ) (low high : Table) (cl ch : Cover) → IsCover low cl → IsCover high ch → (n : ℕ) → Fits n (join label low high) → (covered label cl ch).passes ≡ true → SomeGets n (join label low high) None
+level_passed : (label : Option ℕ) (low high : Table) (cl ch : Cover) → IsCover low cl → IsCover high ch → (n : ℕ) → FitsWidth n (join label low high) → (covered label cl ch).passes ≡ true → SomeGets n (join label low high) None
 level_passed None low high cl ch l h zero f e = ([], refl, shows_end None low high)
 level_passed None low high cl ch l h (suc n) f e = reach_passed n None low high cl ch l h (fits_low n None low high f) (fits_high n None low high f) e
 level_passed (Some g) low high cl ch l h n f e = cc
 
-reached_level : (label : Option ℕ) (low high : Table) (cl ch : Cover) → IsCover low cl → IsCover high ch → (n : ℕ) → Fits (suc n) (join label low high) → ReachedBy (λ g. SomeGets (suc n) (join label low high) (Some g)) (both cl.hops ch.hops)
+reached_level : (label : Option ℕ) (low high : Table) (cl ch : Cover) → IsCover low cl → IsCover high ch → (n : ℕ) → FitsWidth (suc n) (join label low high) → ReachedBy (λ g. SomeGets (suc n) (join label low high) (Some g)) (both cl.hops ch.hops)
 reached_level label low high cl ch l h n f =
     reached_both (λ g. SomeGets (suc n) (join label low high) (Some g)) cl.hops ch.hops
     (reached_map (λ g. SomeGets n low (Some g)) (λ g. SomeGets (suc n) (join label low high) (Some g)) (reach_low_hop n label low high) cl.hops (l.reached n (fits_low n label low high f)))
     (reached_map (λ g. SomeGets n high (Some g)) (λ g. SomeGets (suc n) (join label low high) (Some g)) (reach_high_hop n label low high) ch.hops (h.reached n (fits_high n label low high f)))
 
-bare_both : (label : Option ℕ) (low high : Table) (cl ch : Cover) → IsCover low cl → IsCover high ch → Fits 0 (join label low high) → both cl.hops ch.hops ≡ Zero
+bare_both : (label : Option ℕ) (low high : Table) (cl ch : Cover) → IsCover low cl → IsCover high ch → FitsWidth 0 (join label low high) → both cl.hops ch.hops ≡ Zero
 bare_both label low high cl ch l h f =
     ap (λ x. both x ch.hops) (bare_hops cl (subst (λ (r : Table). IsCover r cl) (no_low label low high f) l))
     ∙ bare_hops ch (subst (λ (r : Table). IsCover r ch) (no_high label low high f) h)
 
-level_reached : (label : Option ℕ) (low high : Table) (cl ch : Cover) → IsCover low cl → IsCover high ch → (n : ℕ) → Fits n (join label low high) → ReachedBy (λ g. SomeGets n (join label low high) (Some g)) (covered label cl ch).hops
+level_reached : (label : Option ℕ) (low high : Table) (cl ch : Cover) → IsCover low cl → IsCover high ch → (n : ℕ) → FitsWidth n (join label low high) → ReachedBy (λ g. SomeGets n (join label low high) (Some g)) (covered label cl ch).hops
 level_reached None low high cl ch l h zero f = subst (λ (x : Hops). ReachedBy (λ g. SomeGets 0 (join None low high) (Some g)) x) (sym (bare_both None low high cl ch l h f)) tt
 level_reached (Some k) low high cl ch l h zero f =
     reached_stopped (λ g. SomeGets 0 (join (Some k) low high) (Some g)) k (cl.passes || ch.passes) (both cl.hops ch.hops) (λ e. ([], refl, shows_end (Some k) low high))

@@ -8,7 +8,7 @@ use Rattle.orig_tree.specs.Walk.{Walks, no_walks, walks_of, has_node}
 use Rattle.orig_tree.specs.Cover.{IsCover}
 use Rattle.orig_tree.specs.Slots.{AreCovers}
 use Rattle.orig_tree.specs.Trims.{IsTrimmed, IsPruned, KeepsRoot, has_labels, bare}
-use Rattle.orig_tree.specs.Arena.{Place, At, Spare, node_at, half_place, link, from_half, walks_by, walks_at, IfHalf, IsNode, IsTree, IsHeld, KeepsOthers}
+use Rattle.orig_tree.specs.Arena.{Owner, At, Spare, cell_at, half_place, link, from_half, walks_by, walks_at, IfHalf, IsNode, IsTree, HasSpares, KeepsOthers}
 use Rattle.orig_tree.specs.Bests.{AreBest}
 use Rattle.orig_tree.specs.Drops.{with_halves, spare_node, what_stays, HalfKept, HalfTrimmed, NodeTrimmed, BothKept}
 use Rattle.orig_tree.specs.Packed.{cover_in}
@@ -22,16 +22,16 @@ use Rattle.orig_tree.proofs.Settling.{others_after, put_held, put_best, given}
 use Rattle.orig_tree.proofs.Trimming.{used, pruned, pruned_nothing, pruned_kept, pruned_bare, labels_low, labels_high, labels_own, trimmed_high, trimmed_low, kept_by_high, kept_by_low, kept_beside_high, kept_beside_low}
 
 -- no half is below the last level
-pub no_level : (d depth : ℕ) (cells : List Node) (name : ℕ → Place) (half : ℕ) (p : List Bool) → d ≤ depth → depth ≡ 0 → half ≢ 0 → IfHalf (λ j. IsTree d cells name j p) (link half) → ⊥
+pub no_level : (d depth : ℕ) (cells : List Node) (name : ℕ → Owner) (half : ℕ) (p : List Bool) → d ≤ depth → depth ≡ 0 → half ≢ 0 → IfHalf (λ j. IsTree d cells name j p) (link half) → ⊥
 unfolding IsTree
 no_level zero depth cells name half p l z e t = subst (λ (o : Option ℕ). IfHalf (λ j. IsTree 0 cells name j p) o) (link_some half e) t
 no_level (suc d) depth cells name half p l z e t = absurd (omega (arith, l, z))
 
-pub half_tree : (d : ℕ) (cells : List Node) (name : ℕ → Place) (half : ℕ) (p : List Bool) → half ≢ 0 → IfHalf (λ j. IsTree d cells name j p) (link half) → IsTree d cells name half p
+pub half_tree : (d : ℕ) (cells : List Node) (name : ℕ → Owner) (half : ℕ) (p : List Bool) → half ≢ 0 → IfHalf (λ j. IsTree d cells name j p) (link half) → IsTree d cells name half p
 half_tree d cells name half p z t = subst (λ (o : Option ℕ). IfHalf (λ j. IsTree d cells name j p) o) (link_some half z) t
 
 -- there is no half
-pub half_none : (d : ℕ) (r : List Bool) (cells : List Node) (free : ℕ) (name : ℕ → Place) (spares half : ℕ) (p : List Bool) → half ≡ 0 → IsHeld cells free name spares → HalfTrimmed d r cells cells free name (link half) p false
+pub half_none : (d : ℕ) (r : List Bool) (cells : List Node) (free : ℕ) (name : ℕ → Owner) (spares half : ℕ) (p : List Bool) → half ≡ 0 → HasSpares cells free name spares → HalfTrimmed d r cells cells free name (link half) p false
 half_none d r cells free name spares half p z h =
     subst (λ (k : ℕ). HalfTrimmed d r cells cells free name (link k) p false) (sym z) (record {
       kept = record { name' = name; spares = spares; tree = tt; held = h; keeps = record { long = omega arith; same = λ j q e k. (refl, e) }; routes = refl; entries = refl; best = λ S f k. tt };
@@ -40,7 +40,7 @@ half_none d r cells free name spares half p z h =
     })
 
 -- the half stays
-pub half_stays : (d : ℕ) (r : List Bool) (old new : List Node) (free : ℕ) (name : ℕ → Place) (half : ℕ) (p : List Bool) (stays : Bool) → half ≢ 0 → stays ≡ true → NodeTrimmed d r old new free name half p stays → HalfTrimmed d r old new free name (link half) p true
+pub half_stays : (d : ℕ) (r : List Bool) (old new : List Node) (free : ℕ) (name : ℕ → Owner) (half : ℕ) (p : List Bool) (stays : Bool) → half ≢ 0 → stays ≡ true → NodeTrimmed d r old new free name half p stays → HalfTrimmed d r old new free name (link half) p true
 half_stays d r old new free name half p stays z s t =
     let by = t.stays_by s in
     subst (λ (o : Option ℕ). HalfTrimmed d r old new free name o p true) (sym (link_some half z)) (record {
@@ -50,7 +50,7 @@ half_stays d r old new free name half p stays z s t =
     })
 
 -- the half goes, and its place is given back
-pub half_goes : (d : ℕ) (r : List Bool) (old mid new : List Node) (free free' : ℕ) (name : ℕ → Place) (half : ℕ) (p : List Bool) (stays : Bool) → half ≢ 0 → stays ≡ false → NodeTrimmed d r old mid free name half p stays →
+pub half_goes : (d : ℕ) (r : List Bool) (old mid new : List Node) (free free' : ℕ) (name : ℕ → Owner) (half : ℕ) (p : List Bool) (stays : Bool) → half ≢ 0 → stays ≡ false → NodeTrimmed d r old mid free name half p stays →
     new ≡ slice_set mid half (spare_node free) → free' ≡ half → HalfTrimmed d r old new free' name (link half) p false
 half_goes d r old mid new free free' name half p stays z s t e x =
     let gone = t.bare s in
@@ -73,7 +73,7 @@ half_goes d r old mid new free free' name half p stays z s t e x =
       keeps = λ h. cc;
     })))
 
-abbrev unchanged : (d : ℕ) (cells : List Node) (free : ℕ) (name : ℕ → Place) (spares : ℕ) (half : Option ℕ) (p : List Bool) → IfHalf (λ j. IsTree d cells name j p) half → IsHeld cells free name spares → HalfKept d cells cells free name half p true
+abbrev unchanged : (d : ℕ) (cells : List Node) (free : ℕ) (name : ℕ → Owner) (spares : ℕ) (half : Option ℕ) (p : List Bool) → IfHalf (λ j. IsTree d cells name j p) half → HasSpares cells free name spares → HalfKept d cells cells free name half p true
 unchanged d cells free name spares half p t h = record { name' = name; spares = spares; tree = t; held = h; keeps = record { long = omega arith; same = λ j q e k. (refl, e) }; routes = refl; entries = refl; best = λ S f k. k }
 
 stays_link : (half : ℕ) (stays : Bool) → link (cond stays half 0) ≡ what_stays stays (link half)
@@ -89,13 +89,13 @@ covers_rows n low low' high high' a b c d k = record {
   entries = subst (λ x. IsCover (join n.entry.hop x high'.entries) (cover_in n.entry)) (sym b) (subst (λ x. IsCover (join n.entry.hop low.entries x) (cover_in n.entry)) (sym d) k.entries);
 }
 
-carries : (p : List Bool) (b c : Bool) (old new : List Node) (name name' : ℕ → Place) → b ≢ c → KeepsOthers (p ++ (b ∷ [])) old new name name' → Carries (p ++ (c ∷ [])) old new name name'
+carries : (p : List Bool) (b c : Bool) (old new : List Node) (name name' : ℕ → Owner) → b ≢ c → KeepsOthers (p ++ (b ∷ [])) old new name name' → Carries (p ++ (c ∷ [])) old new name name'
 carries p b c old new name name' ne k = record { long = k.long; same = λ j q e h. k.same j q e (no (begins (p ++ (b ∷ [])) q) (λ u. both_not p q b c ne u h)) }
 
-half_best : (d : ℕ) (old new : List Node) (name name' : ℕ → Place) (S : ℕ → Best) (f : List Bool → ℕ) (r : List Bool) (o : Option ℕ) → Carries r old new name name' → IfHalf (λ j. IsTree d old name j r) o → IfHalf (λ j. AreBest d old S f j) o → IfHalf (λ j. AreBest d new S f j) o
+half_best : (d : ℕ) (old new : List Node) (name name' : ℕ → Owner) (S : ℕ → Best) (f : List Bool → ℕ) (r : List Bool) (o : Option ℕ) → Carries r old new name name' → IfHalf (λ j. IsTree d old name j r) o → IfHalf (λ j. AreBest d old S f j) o → IfHalf (λ j. AreBest d new S f j) o
 half_best d old new name name' S f r o c t k = both_half (λ j. IsTree d old name j r) (λ j. AreBest d old S f j) (λ j. AreBest d new S f j) o (λ j u v. best_carry d old new S S name f j r u (λ x q e h. ((c.same x q e h).0, refl)) v) t k
 
-module _ (d : ℕ) (old : List Node) (i : ℕ) (name : ℕ → Place) (p : List Bool) (n : Node) where
+module _ (d : ℕ) (old : List Node) (i : ℕ) (name : ℕ → Owner) (p : List Bool) (n : Node) where
   -- the upper half after the lower one was walked
   pub upper_after : (mid : List Node) (free : ℕ) (low : Bool) (L : HalfKept d old mid free name (half_place n false) (p ++ (false ∷ [])) low) → IfHalf (λ j. IsTree d old name j (p ++ (true ∷ []))) (half_place n true) →
       (from_half (walks_at d mid) (half_place n true) ≡ from_half (walks_at d old) (half_place n true)) × IfHalf (λ j. IsTree d mid L.name' j (p ++ (true ∷ []))) (half_place n true)
@@ -116,7 +116,7 @@ module _ (d : ℕ) (old : List Node) (i : ℕ) (name : ℕ → Place) (p : List 
       let kh : half_place m true ≡ hi = stays_link n.high high in
       let el : from_half New (half_place m false) ≡ from_half (walks_at d mid) lo = ap (from_half New) kl ∙ down.0 in
       let eh : from_half New (half_place m true) ≡ from_half New hi = ap (from_half New) kh in
-      let past : (j : ℕ) (q : List Bool) → name j ≡ At q → begins (p ++ (false ∷ [])) q ≡ false → begins (p ++ (true ∷ [])) q ≡ false → (node_at new j ≡ node_at old j) × (H.name' j ≡ At q) =
+      let past : (j : ℕ) (q : List Bool) → name j ≡ At q → begins (p ++ (false ∷ [])) q ≡ false → begins (p ++ (true ∷ [])) q ≡ false → (cell_at new j ≡ cell_at old j) × (H.name' j ≡ At q) =
       λ j q e a b. let x = L.keeps.same j q e a in let y = H.keeps.same j q x.1 b in (y.0 ∙ x.0, y.1) in
       record {
         name' = H.name';
@@ -146,7 +146,7 @@ module _ (d : ℕ) (old : List Node) (i : ℕ) (name : ℕ → Place) (p : List 
       }
 
   -- the node is told which halves stay
-  node_done : (new fin : List Node) (free2 free3 : ℕ) (low high stays : Bool) (lower upper : Walks) (r : List Bool) → n ≡ node_at old i → (b : BothKept d old new free2 name i p n low high lower upper) →
+  node_done : (new fin : List Node) (free2 free3 : ℕ) (low high stays : Bool) (lower upper : Walks) (r : List Bool) → n ≡ cell_at old i → (b : BothKept d old new free2 name i p n low high lower upper) →
       fin ≡ slice_set new i (with_halves n low high) → free3 ≡ free2 → IsTrimmed r (walks_by (walks_at d old) n) (walks_of n.route.hop n.entry.hop lower upper) →
       lower.routes ≡ (from_half (walks_at d old) (half_place n false)).routes → lower.entries ≡ (from_half (walks_at d old) (half_place n false)).entries →
       upper.routes ≡ (from_half (walks_at d old) (half_place n true)).routes → upper.entries ≡ (from_half (walks_at d old) (half_place n true)).entries →
@@ -159,7 +159,7 @@ module _ (d : ℕ) (old : List Node) (i : ℕ) (name : ℕ → Place) (p : List 
       let x = placed d new i m b.name' p b.here b.inside b.node in
       let y = put_held new free2 i b.spares m b.name' p b.here b.held in
       let w : walks_at (suc d) put i ≡ walks_of n.route.hop n.entry.hop lower upper = x.0 ∙ b.walks in
-      let was : walks_by (walks_at d old) n ≡ walks_by (walks_at d old) (node_at old i) = ap (walks_by (walks_at d old)) at in
+      let was : walks_by (walks_at d old) n ≡ walks_by (walks_at d old) (cell_at old i) = ap (walks_by (walks_at d old)) at in
       subst (λ (cs : List Node). NodeTrimmed (suc d) r old cs free3 name i p stays) (sym s) (subst (λ (k : ℕ). NodeTrimmed (suc d) r old put k name i p stays) (sym g) (record {
         name' = b.name';
         spares = b.spares;
@@ -197,7 +197,7 @@ who_stays false false true e = inr (inr refl)
 who_stays false false false e = cc
 
 -- a half that is a node has a node at its root
-half_there : (d : ℕ) (cells : List Node) (name : ℕ → Place) (p : List Bool) (o : Option ℕ) → IfHalf (λ j. IsTree d cells name j p) o → is_some o ≡ true → has_node [] (from_half (walks_at d cells) o).nodes ≡ true
+half_there : (d : ℕ) (cells : List Node) (name : ℕ → Owner) (p : List Bool) (o : Option ℕ) → IfHalf (λ j. IsTree d cells name j p) o → is_some o ≡ true → has_node [] (from_half (walks_at d cells) o).nodes ≡ true
 unfolding IsTree
 half_there d cells name p None t e = cc
 half_there zero cells name p (Some j) t e = absurd t
@@ -214,12 +214,12 @@ bare_stays low high own route entry lower upper e o a b =
     let k = none_stays low high own e in
     ap (λ x. walks_of route entry x upper) (a k.0) ∙ ap (λ x. walks_of route entry no_walks x) (b k.1) ∙ no_labels route entry (sym o ∙ k.2)
 
-module _ (old : List Node) (free i depth : ℕ) (n : Node) (own stays : Bool) (low high : Bool) (at : n ≡ node_at old i) (own_is : own ≡ (is_some n.route.hop || is_some n.entry.hop)) (stays_is : stays ≡ (low || (high || own))) where
+module _ (old : List Node) (free i depth : ℕ) (n : Node) (own stays : Bool) (low high : Bool) (at : n ≡ cell_at old i) (own_is : own ≡ (is_some n.route.hop || is_some n.entry.hop)) (stays_is : stays ≡ (low || (high || own))) where
   pub prune_node : (mid new fin : List Node) (free1 free2 free3 : ℕ) →
-      ((e : ℕ) (name : ℕ → Place) (spares : ℕ) (p : List Bool) → e ≤ depth → IfHalf (λ j. IsTree e old name j p) (half_place n false) → IsHeld old free name spares → HalfTrimmed e [] old mid free1 name (half_place n false) p low) →
-      ((e : ℕ) (name : ℕ → Place) (spares : ℕ) (p : List Bool) → e ≤ depth → IfHalf (λ j. IsTree e mid name j p) (half_place n true) → IsHeld mid free1 name spares → HalfTrimmed e [] mid new free2 name (half_place n true) p high) →
+      ((e : ℕ) (name : ℕ → Owner) (spares : ℕ) (p : List Bool) → e ≤ depth → IfHalf (λ j. IsTree e old name j p) (half_place n false) → HasSpares old free name spares → HalfTrimmed e [] old mid free1 name (half_place n false) p low) →
+      ((e : ℕ) (name : ℕ → Owner) (spares : ℕ) (p : List Bool) → e ≤ depth → IfHalf (λ j. IsTree e mid name j p) (half_place n true) → HasSpares mid free1 name spares → HalfTrimmed e [] mid new free2 name (half_place n true) p high) →
       fin ≡ slice_set new i (with_halves n low high) → free3 ≡ free2 →
-      (d : ℕ) (name : ℕ → Place) (spares : ℕ) (p : List Bool) → d ≤ depth + 1 → IsTree d old name i p → IsHeld old free name spares → NodeTrimmed d [] old fin free3 name i p stays
+      (d : ℕ) (name : ℕ → Owner) (spares : ℕ) (p : List Bool) → d ≤ depth + 1 → IsTree d old name i p → HasSpares old free name spares → NodeTrimmed d [] old fin free3 name i p stays
   unfolding IsTree
   prune_node mid new fin free1 free2 free3 lows highs put same zero name spares p l t h = absurd t
   prune_node mid new fin free1 free2 free3 lows highs put same (suc d) name spares p l t h =
@@ -238,9 +238,9 @@ module _ (old : List Node) (free i depth : ℕ) (n : Node) (own stays : Bool) (l
       (λ e. bare_stays low high own n.route.hop n.entry.hop lower upper (sym e ∙ stays_is) own_is (goes_none (walks_at d mid) (half_place n false) low) (goes_none (walks_at d new) (half_place n true) high))
 
   pub trim_node_high : (q left : ℕ) (new fin : List Node) (free2 free3 : ℕ) → left ≢ 0 → true ≡ nat_eq (bit_at q (left - 1)) 1 → low ≡ is_some (half_place n false) →
-      ((e : ℕ) (name : ℕ → Place) (spares : ℕ) (p : List Bool) → e ≤ depth → IfHalf (λ j. IsTree e old name j p) (half_place n true) → IsHeld old free name spares → HalfTrimmed e (bits_of (left - 1) q) old new free2 name (half_place n true) p high) →
+      ((e : ℕ) (name : ℕ → Owner) (spares : ℕ) (p : List Bool) → e ≤ depth → IfHalf (λ j. IsTree e old name j p) (half_place n true) → HasSpares old free name spares → HalfTrimmed e (bits_of (left - 1) q) old new free2 name (half_place n true) p high) →
       fin ≡ slice_set new i (with_halves n true high) → free3 ≡ free2 →
-      (d : ℕ) (name : ℕ → Place) (spares : ℕ) (p : List Bool) → d ≤ depth + 1 → IsTree d old name i p → IsHeld old free name spares → NodeTrimmed d (bits_of left q) old fin free3 name i p stays
+      (d : ℕ) (name : ℕ → Owner) (spares : ℕ) (p : List Bool) → d ≤ depth + 1 → IsTree d old name i p → HasSpares old free name spares → NodeTrimmed d (bits_of left q) old fin free3 name i p stays
   unfolding IsTree
   trim_node_high q left new fin free2 free3 z y low_is highs put same zero name spares p l t h = absurd t
   trim_node_high q left new fin free2 free3 z y low_is highs put same (suc d) name spares p l t h =
@@ -264,9 +264,9 @@ module _ (old : List Node) (free i depth : ℕ) (n : Node) (own stays : Bool) (l
       (λ e. bare_stays low high own n.route.hop n.entry.hop lower upper (sym e ∙ stays_is) own_is (λ u. ap (from_half Old) (cases_some (half_place n false) (sym low_is ∙ u))) (goes_none (walks_at d new) (half_place n true) high))
 
   pub trim_node_low : (q left : ℕ) (new fin : List Node) (free2 free3 : ℕ) → left ≢ 0 → false ≡ nat_eq (bit_at q (left - 1)) 1 → high ≡ is_some (half_place n true) →
-      ((e : ℕ) (name : ℕ → Place) (spares : ℕ) (p : List Bool) → e ≤ depth → IfHalf (λ j. IsTree e old name j p) (half_place n false) → IsHeld old free name spares → HalfTrimmed e (bits_of (left - 1) q) old new free2 name (half_place n false) p low) →
+      ((e : ℕ) (name : ℕ → Owner) (spares : ℕ) (p : List Bool) → e ≤ depth → IfHalf (λ j. IsTree e old name j p) (half_place n false) → HasSpares old free name spares → HalfTrimmed e (bits_of (left - 1) q) old new free2 name (half_place n false) p low) →
       fin ≡ slice_set new i (with_halves n low true) → free3 ≡ free2 →
-      (d : ℕ) (name : ℕ → Place) (spares : ℕ) (p : List Bool) → d ≤ depth + 1 → IsTree d old name i p → IsHeld old free name spares → NodeTrimmed d (bits_of left q) old fin free3 name i p stays
+      (d : ℕ) (name : ℕ → Owner) (spares : ℕ) (p : List Bool) → d ≤ depth + 1 → IsTree d old name i p → HasSpares old free name spares → NodeTrimmed d (bits_of left q) old fin free3 name i p stays
   unfolding IsTree
   trim_node_low q left new fin free2 free3 z y high_is lows put same zero name spares p l t h = absurd t
   trim_node_low q left new fin free2 free3 z y high_is lows put same (suc d) name spares p l t h =
@@ -293,5 +293,5 @@ module _ (old : List Node) (free i depth : ℕ) (n : Node) (own stays : Bool) (l
       ]))
       (λ e. bare_stays low high own n.route.hop n.entry.hop lower upper (sym e ∙ stays_is) own_is (goes_none (walks_at d new) (half_place n false) low) (λ u. ap (from_half (walks_at d new)) (cases_some (half_place n true) (sym high_is ∙ u))))
 
-pub trim_end : (d : ℕ) (old new : List Node) (free : ℕ) (name : ℕ → Place) (i : ℕ) (p : List Bool) (left q : ℕ) (stays : Bool) → left ≡ 0 → NodeTrimmed d [] old new free name i p stays → NodeTrimmed d (bits_of left q) old new free name i p stays
+pub trim_end : (d : ℕ) (old new : List Node) (free : ℕ) (name : ℕ → Owner) (i : ℕ) (p : List Bool) (left q : ℕ) (stays : Bool) → left ≡ 0 → NodeTrimmed d [] old new free name i p stays → NodeTrimmed d (bits_of left q) old new free name i p stays
 trim_end d old new free name i p left q stays z t = subst (λ (r : List Bool). NodeTrimmed d r old new free name i p stays) (sym (no_bits left q z)) t

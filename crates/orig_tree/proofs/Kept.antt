@@ -7,9 +7,9 @@ use Rattle.table_model.specs.Bits.{bits_of}
 use Rattle.table_model.specs.Table.{Table, lpm, inherit}
 use Rattle.table_model.specs.Regions.{join}
 use Rattle.table_model.proofs.Join.{lpm_join_low, lpm_join_high}
-use Rattle.orig_tree.specs.Views.{Fits}
+use Rattle.orig_tree.specs.Views.{FitsWidth}
 use Rattle.orig_tree.specs.Walk.{Walks, walks_of, rows_of, edited, labelled}
-use Rattle.orig_tree.specs.Cover.{Shows, Allows, Within, SomeGets, ReachedBy, IsCover, only_by, only_of}
+use Rattle.orig_tree.specs.Cover.{ShowsHop, Allows, Within, SomeGets, ReachedBy, IsCover, only_by, only_of}
 use Rattle.orig_tree.specs.Slots.{AreCovers, Retold}
 use Rattle.orig_tree.specs.Uniform.{EachGets, TwoGet, IsUniform}
 use Rattle.orig_tree.specs.Packed.{cover_in}
@@ -95,22 +95,22 @@ told_low label h own route entry new_route new_entry low high node after left q 
     ∙ assign_low label h route.hop entry.hop low high node after left q e b w a
 
 -- the one hop of a region
-all_inherit : (n h : ℕ) (rows : Table) (c : Cover) → c.hops ≡ Zero → ((a : List Bool) → length a ≡ n → (x : Option ℕ) × Shows rows a x × Within c x) → EachGets n rows h [] h
+all_inherit : (n h : ℕ) (rows : Table) (c : Cover) → c.hops ≡ Zero → ((a : List Bool) → length a ≡ n → (x : Option ℕ) × ShowsHop rows a x × Within c x) → EachGets n rows h [] h
 all_inherit n h rows c z e a l b =
     let t = e a l in
-    let P : Option ℕ → Type 0 = λ x. Shows rows a x → Within c x → lpm rows a h ≡ h in
+    let P : Option ℕ → Type 0 = λ x. ShowsHop rows a x → Within c x → lpm rows a h ≡ h in
     (elim t.0 as P [ None ↦ λ s w. s h | Some g ↦ λ s w. absurd (subst (λ (y : Hops). Allows y g) z w) ]) t.1 t.2
 
-all_one : (n h x : ℕ) (rows : Table) (c : Cover) → c.hops ≡ One x → (c.passes ≡ true → h ≡ x) → ((a : List Bool) → length a ≡ n → (y : Option ℕ) × Shows rows a y × Within c y) → EachGets n rows h [] x
+all_one : (n h x : ℕ) (rows : Table) (c : Cover) → c.hops ≡ One x → (c.passes ≡ true → h ≡ x) → ((a : List Bool) → length a ≡ n → (y : Option ℕ) × ShowsHop rows a y × Within c y) → EachGets n rows h [] x
 all_one n h x rows c z p e a l b =
     let t = e a l in
-    let P : Option ℕ → Type 0 = λ y. Shows rows a y → Within c y → lpm rows a h ≡ x in
+    let P : Option ℕ → Type 0 = λ y. ShowsHop rows a y → Within c y → lpm rows a h ≡ x in
     (elim t.0 as P [ None ↦ λ s w. s h ∙ p w | Some g ↦ λ s w. s h ∙ subst (λ (y : Hops). Allows y g) z w ]) t.1 t.2
 
 two_differ : (n h : ℕ) (rows : Table) (u v : ℕ) (a b : List Bool) → length a ≡ n → length b ≡ n → lpm rows a h ≡ u → lpm rows b h ≡ v → u ≢ v → TwoGet n rows h []
 two_differ n h rows u v a b la lb ea eb d = (a, b, la, lb, refl, refl, λ e. d (sym ea ∙ e ∙ eb))
 
-uniform_hops : (n h : ℕ) (rows : Table) (c : Cover) (hops : Hops) → c.hops ≡ hops → IsCover rows c → Fits n rows → IsUniform n rows h [] (only_by c.passes hops h)
+uniform_hops : (n h : ℕ) (rows : Table) (c : Cover) (hops : Hops) → c.hops ≡ hops → IsCover rows c → FitsWidth n rows → IsUniform n rows h [] (only_by c.passes hops h)
 uniform_hops n h rows c Zero z k f = all_inherit n h rows c z (k.each n f)
 uniform_hops n h rows c Many z k f =
     let r : ReachedBy (λ g. SomeGets n rows (Some g)) Many = subst (λ (y : Hops). ReachedBy (λ g. SomeGets n rows (Some g)) y) z (k.reached n f) in
@@ -126,7 +126,7 @@ uniform_hops n h rows c (One x) z k f =
       | false ↦ λ s t. all_one n h x rows c z (λ e. cc) (k.each n f)
     ]) refl refl
 
-pub uniform_only : (n h : ℕ) (rows : Table) (c : Cover) → IsCover rows c → Fits n rows → IsUniform n rows h [] (only_of c h)
+pub uniform_only : (n h : ℕ) (rows : Table) (c : Cover) → IsCover rows c → FitsWidth n rows → IsUniform n rows h [] (only_of c h)
 uniform_only n h rows c k f = uniform_hops n h rows c c.hops refl k f
 
 low_all : (n h : ℕ) (label : Option ℕ) (low high : Table) (p : List Bool) (k : ℕ) → EachGets n low (inherit label h) p k → EachGets (suc n) (join label low high) h (false ∷ p) k
@@ -149,12 +149,12 @@ uniform_high n h label low high p (Some k) u = high_all n h label low high p k u
 
 module _ (label : Label) (route entry : Option ℕ) (low high node : Walks) (left q inherited hop : ℕ) (result : Option ℕ) where
   pub uniform_high_step : walks_of route entry low high ≡ node → left ≢ 0 → true ≡ nat_eq (bit_at q (left - 1)) 1 → hop ≡ unwrap_or (labelled label route entry) inherited →
-      ((n : ℕ) → left - 1 ≤ n → Fits n (rows_of label high) → IsUniform n (rows_of label high) hop (bits_of (left - 1) q) result) →
-      (n : ℕ) → left ≤ n → Fits n (rows_of label node) → IsUniform n (rows_of label node) inherited (bits_of left q) result
+      ((n : ℕ) → left - 1 ≤ n → FitsWidth n (rows_of label high) → IsUniform n (rows_of label high) hop (bits_of (left - 1) q) result) →
+      (n : ℕ) → left ≤ n → FitsWidth n (rows_of label node) → IsUniform n (rows_of label node) inherited (bits_of left q) result
   uniform_high_step w e b o u zero l f = absurd (omega arith)
   uniform_high_step w e b o u (suc n) l f =
       let own = labelled label route entry in
-      let f' : Fits (suc n) (join own (rows_of label low) (rows_of label high)) = subst (λ (r : Table). Fits (suc n) r) (ap (rows_of label) (sym w) ∙ rows_level label route entry low high) f in
+      let f' : FitsWidth (suc n) (join own (rows_of label low) (rows_of label high)) = subst (λ (r : Table). FitsWidth (suc n) r) (ap (rows_of label) (sym w) ∙ rows_level label route entry low high) f in
       let v = u n (omega arith) (fits_high n own (rows_of label low) (rows_of label high) f') in
       let v' : IsUniform n (rows_of label high) (inherit own inherited) (bits_of (left - 1) q) result = subst (λ (h : ℕ). IsUniform n (rows_of label high) h (bits_of (left - 1) q) result) (o ∙ sym (given_is own inherited)) v in
       let s = uniform_high n inherited own (rows_of label low) (rows_of label high) (bits_of (left - 1) q) result v' in
@@ -162,12 +162,12 @@ module _ (label : Label) (route entry : Option ℕ) (low high node : Walks) (lef
       (subst (λ (r : Table). IsUniform (suc n) r inherited (true ∷ bits_of (left - 1) q) result) (sym (ap (rows_of label) (sym w) ∙ rows_level label route entry low high)) s)
 
   pub uniform_low_step : walks_of route entry low high ≡ node → left ≢ 0 → false ≡ nat_eq (bit_at q (left - 1)) 1 → hop ≡ unwrap_or (labelled label route entry) inherited →
-      ((n : ℕ) → left - 1 ≤ n → Fits n (rows_of label low) → IsUniform n (rows_of label low) hop (bits_of (left - 1) q) result) →
-      (n : ℕ) → left ≤ n → Fits n (rows_of label node) → IsUniform n (rows_of label node) inherited (bits_of left q) result
+      ((n : ℕ) → left - 1 ≤ n → FitsWidth n (rows_of label low) → IsUniform n (rows_of label low) hop (bits_of (left - 1) q) result) →
+      (n : ℕ) → left ≤ n → FitsWidth n (rows_of label node) → IsUniform n (rows_of label node) inherited (bits_of left q) result
   uniform_low_step w e b o u zero l f = absurd (omega arith)
   uniform_low_step w e b o u (suc n) l f =
       let own = labelled label route entry in
-      let f' : Fits (suc n) (join own (rows_of label low) (rows_of label high)) = subst (λ (r : Table). Fits (suc n) r) (ap (rows_of label) (sym w) ∙ rows_level label route entry low high) f in
+      let f' : FitsWidth (suc n) (join own (rows_of label low) (rows_of label high)) = subst (λ (r : Table). FitsWidth (suc n) r) (ap (rows_of label) (sym w) ∙ rows_level label route entry low high) f in
       let v = u n (omega arith) (fits_low n own (rows_of label low) (rows_of label high) f') in
       let v' : IsUniform n (rows_of label low) (inherit own inherited) (bits_of (left - 1) q) result = subst (λ (h : ℕ). IsUniform n (rows_of label low) h (bits_of (left - 1) q) result) (o ∙ sym (given_is own inherited)) v in
       let s = uniform_low n inherited own (rows_of label low) (rows_of label high) (bits_of (left - 1) q) result v' in
@@ -175,7 +175,7 @@ module _ (label : Label) (route entry : Option ℕ) (low high node : Walks) (lef
       (subst (λ (r : Table). IsUniform (suc n) r inherited (false ∷ bits_of (left - 1) q) result) (sym (ap (rows_of label) (sym w) ∙ rows_level label route entry low high)) s)
 
 pub uniform_here : (label : Label) (node : Walks) (c : Cover) (left q inherited : ℕ) (result : Option ℕ) → IsCover (rows_of label node) c → left ≡ 0 → result ≡ only_of c inherited →
-    (n : ℕ) → left ≤ n → Fits n (rows_of label node) → IsUniform n (rows_of label node) inherited (bits_of left q) result
+    (n : ℕ) → left ≤ n → FitsWidth n (rows_of label node) → IsUniform n (rows_of label node) inherited (bits_of left q) result
 uniform_here label node c left q inherited result k e r n l f =
     subst (λ (p : List Bool). IsUniform n (rows_of label node) inherited p result) (sym (no_bits left q e))
     (subst (λ (x : Option ℕ). IsUniform n (rows_of label node) inherited [] x) (sym r) (uniform_only n inherited (rows_of label node) c k f))

@@ -6,9 +6,9 @@ use Rattle.table_model.specs.declared.family.Family.{Family}
 use Rattle.table_model.specs.Table.{lpm}
 use Rattle.table_model.specs.Sets.{side}
 use Rattle.orig_tree.specs.Edits.{edit}
-use Rattle.orig_tree.specs.Walk.{Walks, no_walks, walks_of, edited, Allowed, has_node}
-use Rattle.orig_tree.specs.Arena.{Place, blank, node_at, half_place, IfHalf, walks_at, IsTree, IsHeld, HasRoom, IsRoomier, HalvesStay, whole, IsArena}
-use Rattle.orig_tree.specs.Bests.{Stands, best_one, AreBest, changed, laid, Untouched, IsMended, IsGrown, KeepsBest, IsLaid}
+use Rattle.orig_tree.specs.Walk.{Walks, no_walks, walks_of, edited, CanEdit, has_node}
+use Rattle.orig_tree.specs.Arena.{Owner, blank_cell, cell_at, half_place, IfHalf, walks_at, IsTree, HasSpares, MakesRoom, IsRoomier, HalvesStay, whole, IsArena}
+use Rattle.orig_tree.specs.Bests.{IsRegionBest, best_one, AreBest, changed, laid, Untouched, IsMended, IsGrown, KeepsBest, IsLaid}
 use Rattle.orig_tree.specs.declared.node.Node.{Node}
 use Rattle.orig_tree.specs.declared.node.Label.TheVariants.{Route}
 use Rattle.orig_tree.specs.declared.best.Best.{Best}
@@ -21,14 +21,14 @@ use Rattle.orig_tree.proofs.Placing.{Places, placed_whole}
 
 -- ---- the root alone
 
-pub root_keeps : (f : Family) (cells : List Node) (kept : ℕ → Best) → cells ≡ blank ∷ [] → whole f cells ≡ walks_of None None no_walks no_walks → ((i : ℕ) → kept i ≡ best_one 0) → KeepsBest f cells kept
+pub root_keeps : (f : Family) (cells : List Node) (kept : ℕ → Best) → cells ≡ blank_cell ∷ [] → whole f cells ≡ walks_of None None no_walks no_walks → ((i : ℕ) → kept i ≡ best_one 0) → KeepsBest f cells kept
 unfolding AreBest
 root_keeps f cells kept e w k = (
-  subst (λ (x : Best). Stands (width f) (λ a. lpm (whole f cells).routes a 0) x) (sym (k 0)) (stands_one (width f) 0 (λ a. lpm (whole f cells).routes a 0) (λ a l. ap (λ (x : Walks). lpm x.routes a 0) w)),
-  λ b. subst (λ (cs : List Node). IfHalf (λ j. AreBest (width f) cells kept (side b (λ a. lpm (whole f cells).routes a 0)) j) (half_place (node_at cs 0) b)) (sym e) (no_half b),
+  subst (λ (x : Best). IsRegionBest (width f) (λ a. lpm (whole f cells).routes a 0) x) (sym (k 0)) (stands_one (width f) 0 (λ a. lpm (whole f cells).routes a 0) (λ a l. ap (λ (x : Walks). lpm x.routes a 0) w)),
+  λ b. subst (λ (cs : List Node). IfHalf (λ j. AreBest (width f) cells kept (side b (λ a. lpm (whole f cells).routes a 0)) j) (half_place (cell_at cs 0) b)) (sym e) (no_half b),
 )
   where
-    no_half : (b : Bool) → IfHalf (λ j. AreBest (width f) cells kept (side b (λ a. lpm (whole f cells).routes a 0)) j) (half_place blank b)
+    no_half : (b : Bool) → IfHalf (λ j. AreBest (width f) cells kept (side b (λ a. lpm (whole f cells).routes a 0)) j) (half_place blank_cell b)
     no_half true = tt
     no_half false = tt
 
@@ -39,11 +39,11 @@ stays f old new S S' e s k = subst (λ (cs : List Node). KeepsBest f cs S') (sym
 
 abbrev pub GrowsNodes : List Bool → ℕ → List Node → ℕ → List Node → ℕ → Type 0
 GrowsNodes p len old free new free' =
-    (d : ℕ) (name : ℕ → Place) (n : ℕ) (r : List Bool) → len < d → IsTree d old name 0 r → IsHeld old free name n → HasRoom d p old new free' name 0 r
+    (d : ℕ) (name : ℕ → Owner) (n : ℕ) (r : List Bool) → len < d → IsTree d old name 0 r → HasSpares old free name n → MakesRoom d p old new free' name 0 r
 
 abbrev pub GrowsBest : Option ℕ → List Bool → ℕ → List Node → ℕ → List Node → (ℕ → Best) → (ℕ → Best) → Type 0
 GrowsBest set p len old free new S S' =
-    (d : ℕ) (name : ℕ → Place) (n : ℕ) (r : List Bool) → len < d → IsTree d old name 0 r → IsHeld old free name n →
+    (d : ℕ) (name : ℕ → Owner) (n : ℕ) (r : List Bool) → len < d → IsTree d old name 0 r → HasSpares old free name n →
     AreBest d old S (λ a. lpm (laid set p (walks_at d old 0).routes) a 0) 0 → IsGrown d new name 0 r (λ a. lpm (laid set p (walks_at d old 0).routes) a 0) S S'
 
 module _ (f : Family) (q len : ℕ) (few : len ≤ width f) (old mid : List Node) (free free1 : ℕ) (S S1 : ℕ → Best) (a : IsArena f old free) (same : mid ≡ old) (frees : free1 ≡ free) (bests : (j : ℕ) → S1 j ≡ S j) (k : KeepsBest f old S) where
@@ -71,7 +71,7 @@ module _ (f : Family) (q len : ℕ) (few : len ≤ width f) (old mid : List Node
 
   abbrev Plans : Option ℕ → ℕ → List Change → List Change → Best → Type 0
   Plans set depth O C x =
-      (name : ℕ → Place) (r : List Bool) → IsTree (suc depth) mid name 0 r → AreBest (suc depth) mid S1 (λ a. lpm (walks_at (suc depth) mid 0).routes a 0) 0 → Untouched r name S1 (changed O S1) →
+      (name : ℕ → Owner) (r : List Bool) → IsTree (suc depth) mid name 0 r → AreBest (suc depth) mid S1 (λ a. lpm (walks_at (suc depth) mid 0).routes a 0) 0 → Untouched r name S1 (changed O S1) →
       IsMended depth mid name 0 r (λ a. lpm (edit (bits_of len q) set (walks_at (suc depth) mid 0).routes) a 0) (changed O S1) (changed C S1) x
 
   after_plan : (set : Option ℕ) (depth n : ℕ) (O C : List Change) (x : Best) (S2 : ℕ → Best) → depth ≡ width f → O ≡ [] → length mid ≤ n + 1 → Plans set depth O C x → ((j : ℕ) → j ≤ n → S2 j ≡ changed C S1 j) →
@@ -93,7 +93,7 @@ module _ (f : Family) (q len : ℕ) (few : len ≤ width f) (old mid : List Node
         subst (λ (w : Walks). IsLaid Route (bits_of len q) hop w (whole f new)) (ap (whole f) same) y.1,
       )
 
-  pub is_altered : (o : Option ℕ) (depth n : ℕ) (O C : List Change) (x : Best) (S2 : ℕ → Best) (new : List Node) (free' : ℕ) → Allowed (bits_of len q) o (whole f mid).nodes → depth ≡ width f → O ≡ [] → length mid ≤ n + 1 → Plans o depth O C x →
+  pub is_altered : (o : Option ℕ) (depth n : ℕ) (O C : List Change) (x : Best) (S2 : ℕ → Best) (new : List Node) (free' : ℕ) → CanEdit (bits_of len q) o (whole f mid).nodes → depth ≡ width f → O ≡ [] → length mid ≤ n + 1 → Plans o depth O C x →
       ((j : ℕ) → j ≤ n → S2 j ≡ changed C S1 j) → free' ≡ free1 → Assigns o len q mid new → HalvesStay mid new → IsArena f new free' × KeepsBest f new S2 × (whole f new ≡ edited Route (bits_of len q) o (whole f mid))
   is_altered o depth n O C x S2 new free' w0 w z l plan made g assigned stay =
       put_in f q len o free1 free' mid new S2 few g a1 w0 (after_plan o depth n O C x S2 w z l plan made) assigned stay

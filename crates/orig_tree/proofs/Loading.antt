@@ -1,7 +1,7 @@
 -- What nodes keep, told from the least regions on.
 use Rattle.std.proofs.Common.{◌≡◌, ℕ, suc, List, [], Bool, Option, Some, None, refl, sym, ap, ◌∙◌, subst}
 use Rattle.table_model.specs.Table.{Table, lpm}
-use Rattle.orig_tree.specs.Arena.{Place, IfHalf, IsTree, walks_at, from_half}
+use Rattle.orig_tree.specs.Arena.{Owner, IfHalf, IsTree, walks_at, from_half}
 use Rattle.orig_tree.specs.Bests.{best_one, best_behind, IsMended, HalfMended}
 use Rattle.orig_tree.specs.declared.node.Node.{Node}
 use Rattle.orig_tree.specs.declared.best.Best.{Best}
@@ -23,12 +23,12 @@ use Rattle.fib_addr.specs.Views.{prefix_as, entry_as}
 use Rattle.fib_addr.specs.declared.entry.Entry as code_entry
 use Rattle.fib_addr.specs.declared.prefix.Prefix as code
 use Rattle.fib_addr.proofs.Parts.{length_prefix}
-use Rattle.orig_tree.specs.Views.{InPlace, Fits}
+use Rattle.orig_tree.specs.Views.{InPlace, FitsWidth}
 use Rattle.orig_tree.specs.Edits.{put}
 use Rattle.orig_tree.specs.Walk.{rows_of}
 use Rattle.orig_tree.specs.Arena.{IsArena, whole}
 use Rattle.orig_tree.specs.Bests.{KeepsBest}
-use Rattle.orig_tree.specs.Woven.{beside, own_of, with_rows, Weaves, Lays}
+use Rattle.orig_tree.specs.Merged.{beside, own_of, with_rows, Merges, Lays}
 use Rattle.orig_tree.proofs.Places.{in_place_put, same_rows, entries_put}
 use Rattle.orig_tree.specs.declared.node.Label.{Label}
 use Rattle.orig_tree.specs.declared.node.Label.TheVariants.{Entry}
@@ -37,15 +37,15 @@ use Rattle.orig_tree.proofs.Standing.{best_alike}
 use Rattle.orig_tree.proofs.Placing.{Places, placed_whole, is_entered}
 use Rattle.orig_tree.proofs.Weaving.{rows_alike, rows_edited, beside_edited, routes_by}
 
-pub settled_none : (cells : List Node) (depth hop : ℕ) (o : Option ℕ) (S : ℕ → Best) → o ≡ None → (name : ℕ → Place) (p : List Bool) →
+pub settled_none : (cells : List Node) (depth hop : ℕ) (o : Option ℕ) (S : ℕ → Best) → o ≡ None → (name : ℕ → Owner) (p : List Bool) →
     HalfMended depth cells name o p (λ a. lpm (from_half (walks_at (suc depth) cells) o).routes a hop) S S (best_behind S o (best_one hop))
 settled_none cells depth hop o S e name p =
     subst (λ (o : Option ℕ). HalfMended depth cells name o p (λ a. lpm (from_half (walks_at (suc depth) cells) o).routes a hop) S S (best_behind S o (best_one hop))) (sym e)
     (record { stands = stands_one depth hop (λ a. hop) (λ a l. refl); best = tt; keeps = λ j r f b. refl })
 
 pub settled_some : (cells : List Node) (depth hop j : ℕ) (o : Option ℕ) (S S' : ℕ → Best) → o ≡ Some j →
-    ((name : ℕ → Place) (p : List Bool) → IsTree (suc depth) cells name j p → IsMended depth cells name j p (λ a. lpm (walks_at (suc depth) cells j).routes a hop) S S' (S' j)) →
-    (name : ℕ → Place) (p : List Bool) → IfHalf (λ j. IsTree (suc depth) cells name j p) o → HalfMended depth cells name o p (λ a. lpm (from_half (walks_at (suc depth) cells) o).routes a hop) S S' (best_behind S' o (best_one hop))
+    ((name : ℕ → Owner) (p : List Bool) → IsTree (suc depth) cells name j p → IsMended depth cells name j p (λ a. lpm (walks_at (suc depth) cells j).routes a hop) S S' (S' j)) →
+    (name : ℕ → Owner) (p : List Bool) → IfHalf (λ j. IsTree (suc depth) cells name j p) o → HalfMended depth cells name o p (λ a. lpm (from_half (walks_at (suc depth) cells) o).routes a hop) S S' (best_behind S' o (best_one hop))
 settled_some cells depth hop j o S S' e f name p =
     subst (λ (o : Option ℕ). IfHalf (λ j. IsTree (suc depth) cells name j p) o → HalfMended depth cells name o p (λ a. lpm (from_half (walks_at (suc depth) cells) o).routes a hop) S S' (best_behind S' o (best_one hop))) (sym e)
     (λ t. let m = f name p t in record { stands = m.stands; best = m.best; keeps = m.keeps })
@@ -120,7 +120,7 @@ front_prefixes [] D a = tt
 front_prefixes (e ∷ E) D a = (a.0, front_prefixes E D a.1)
 
 -- entries of a family's table that are set in it, each in its turn
-rows_set : (f : Family) (T R : Table) → Fits (width f) T → InPlace (of_table f R) → InPlace (of_table f (with_rows T R)) × (of_table f (with_rows T R) ≡ fold with_entry (of_table f R) (of_table f T))
+rows_set : (f : Family) (T R : Table) → FitsWidth (width f) T → InPlace (of_table f R) → InPlace (of_table f (with_rows T R)) × (of_table f (with_rows T R) ≡ fold with_entry (of_table f R) (of_table f T))
 rows_set f [] R l i = (i, refl)
 rows_set f (e ∷ T) R l i =
     let x = rows_set f T (put e.prefix e.hop R) l.1 (in_place_put f e.prefix e.hop R (put e.prefix e.hop R) l.0 refl i) in
@@ -128,9 +128,9 @@ rows_set f (e ∷ T) R l i =
 
 -- what one walk from the root sets
 pub lays_front : (f : Family) (p : code.Prefix) (label : Label) (old new : List Node) (free free' : ℕ) (S S' : ℕ → Best) (es rs : List code_entry.Entry) → prefix_as p ≡ record { family = f; bits = [] } → IsArena f old free → InPlace (of_table f (rows_of label (whole f old))) →
-    Weaves label 0 (width p.family - p.len) (prefix_as p) old new free free' S S' 0 (map entry_as es) (map entry_as rs) → Lays f label old new free' S S' (map entry_as es) (map entry_as rs)
+    Merges label 0 (width p.family - p.len) (prefix_as p) old new free free' S S' 0 (map entry_as es) (map entry_as rs) → Lays f label old new free' S S' (map entry_as es) (map entry_as rs)
 lays_front f p label old new free free' S S' es rs is a i w =
-    let y = w.woven (suc (width f)) a.name a.spares [] (omega (arith, ap (λ (x : Prefix). width x.family) is)) a.tree a.held in
+    let y = w.merged (suc (width f)) a.name a.spares [] (omega (arith, ap (λ (x : Prefix). width x.family) is)) a.tree a.held in
     let T = w.taken in
     let E = map entry_as es in
     let R = map entry_as rs in
@@ -150,6 +150,6 @@ lays_front f p label old new free free' S S' es rs is a i w =
     }
 
 pub settled_whole : (f : Family) (depth free : ℕ) (cells : List Node) (S S' : ℕ → Best) → depth ≡ width f → IsArena f cells free →
-    ((name : ℕ → Place) (p : List Bool) → IsTree (suc depth) cells name 0 p → IsMended depth cells name 0 p (λ a. lpm (walks_at (suc depth) cells 0).routes a 0) S S' (S' 0)) → KeepsBest f cells S'
+    ((name : ℕ → Owner) (p : List Bool) → IsTree (suc depth) cells name 0 p → IsMended depth cells name 0 p (λ a. lpm (walks_at (suc depth) cells 0).routes a 0) S S' (S' 0)) → KeepsBest f cells S'
 settled_whole f depth free cells S S' e a m =
-    (subst (λ (D : ℕ). (name : ℕ → Place) (p : List Bool) → IsTree (suc D) cells name 0 p → IsMended D cells name 0 p (λ a. lpm (walks_at (suc D) cells 0).routes a 0) S S' (S' 0)) e m a.name [] a.tree).best
+    (subst (λ (D : ℕ). (name : ℕ → Owner) (p : List Bool) → IsTree (suc D) cells name 0 p → IsMended D cells name 0 p (λ a. lpm (walks_at (suc D) cells 0).routes a 0) S S' (S' 0)) e m a.name [] a.tree).best

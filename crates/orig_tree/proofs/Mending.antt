@@ -13,8 +13,8 @@ use Rattle.table_model.proofs.Join.{root_join, low_join, high_join}
 use Rattle.orig_tree.specs.Edits.{edit}
 use Rattle.orig_tree.specs.Packed.{cover_in}
 use Rattle.orig_tree.specs.Walk.{Walks}
-use Rattle.orig_tree.specs.Arena.{Place, At, node_at, half_place, from_half, IfHalf, IsTree, walks_at, walks_by}
-use Rattle.orig_tree.specs.Bests.{Stands, best_one, best_behind, kept_or, AreBest, put_at, changed, under, Untouched, UntouchedElse, IsMended, HalfMended}
+use Rattle.orig_tree.specs.Arena.{Owner, At, cell_at, half_place, from_half, IfHalf, IsTree, walks_at, walks_by}
+use Rattle.orig_tree.specs.Bests.{IsRegionBest, best_one, best_behind, kept_or, AreBest, put_at, changed, under, Untouched, UntouchedElse, IsMended, HalfMended}
 use Rattle.orig_tree.specs.declared.node.Node.{Node}
 use Rattle.orig_tree.specs.declared.node.Label.TheVariants.{Route}
 use Rattle.orig_tree.specs.declared.best.Best.{Best}
@@ -101,7 +101,7 @@ pub put_other : (kept : ℕ → Best) (i j : ℕ) (x : Best) → j ≢ i → put
 put_other kept i j x n = ap (λ (b : Bool). cond b x (kept j)) (ne_eqb j i n)
 
 -- the places of a half are apart from the node's
-else_not : (name : ℕ → Place) (i j : ℕ) (p r : List Bool) → name i ≡ At p → name j ≡ At r → begins p r ≡ false → j ≢ i
+else_not : (name : ℕ → Owner) (i j : ℕ) (p r : List Bool) → name i ≡ At p → name j ≡ At r → begins p r ≡ false → j ≢ i
 else_not name i j p r e f h s =
     let g : r ≡ p = at_same r p (sym f ∙ ap name s ∙ e) in
     let x : true ≡ false = sym (begins_self p) ∙ ap (begins p) (sym g) ∙ h in
@@ -113,7 +113,7 @@ half_else p r b h = no (begins (p ++ (b ∷ [])) r) (λ e. no_begin p r b e h)
 other_else : (p r : List Bool) (b c : Bool) → b ≢ c → begins (p ++ (b ∷ [])) r ≡ true → begins (p ++ (c ∷ [])) r ≡ false
 other_else p r b c n h = no (begins (p ++ (c ∷ [])) r) (λ e. both_not p r b c n h e)
 
-pub half_alike : (d : ℕ) (cells : List Node) (name : ℕ → Place) (o : Option ℕ) (p : List Bool) (f g : List Bool → ℕ) (old new : ℕ → Best) (x : Best) → ((a : List Bool) → length a ≡ d → f a ≡ g a) → HalfMended d cells name o p f old new x → HalfMended d cells name o p g old new x
+pub half_alike : (d : ℕ) (cells : List Node) (name : ℕ → Owner) (o : Option ℕ) (p : List Bool) (f g : List Bool → ℕ) (old new : ℕ → Best) (x : Best) → ((a : List Bool) → length a ≡ d → f a ≡ g a) → HalfMended d cells name o p f old new x → HalfMended d cells name o p g old new x
 half_alike d cells name o p f g old new x e m = record {
   stands = stands_alike d f g x e m.stands;
   best = if_half (λ j. AreBest (suc d) cells new f j) (λ j. AreBest (suc d) cells new g j) o (λ j. best_alike (suc d) cells new f g j (λ a l. e a (suc_same (length a) d l))) m.best;
@@ -123,7 +123,7 @@ half_alike d cells name o p f g old new x e m = record {
     suc_same : (a b : ℕ) → suc a ≡ suc b → a ≡ b
     suc_same a b e = omega (arith, e)
 
-pub mended_alike : (d : ℕ) (cells : List Node) (name : ℕ → Place) (i : ℕ) (p : List Bool) (f g : List Bool → ℕ) (old new : ℕ → Best) (x : Best) → ((a : List Bool) → length a ≡ d → f a ≡ g a) → IsMended d cells name i p f old new x → IsMended d cells name i p g old new x
+pub mended_alike : (d : ℕ) (cells : List Node) (name : ℕ → Owner) (i : ℕ) (p : List Bool) (f g : List Bool → ℕ) (old new : ℕ → Best) (x : Best) → ((a : List Bool) → length a ≡ d → f a ≡ g a) → IsMended d cells name i p f old new x → IsMended d cells name i p g old new x
 mended_alike d cells name i p f g old new x e m = record {
   stands = stands_alike d f g x e m.stands;
   best = best_alike (suc d) cells new f g i (λ a l. e a (suc_is (length a) d l)) m.best;
@@ -134,14 +134,14 @@ mended_alike d cells name i p f g old new x e m = record {
     suc_is a b e = omega (arith, e)
 
 -- a node's region, once both its halves are right
-pub both_mended : (d : ℕ) (cells : List Node) (name : ℕ → Place) (i : ℕ) (p : List Bool) (f : List Bool → ℕ) (S0 S1 S2 : ℕ → Best) (low high x : Best) → IsTree (suc (suc d)) cells name i p →
-    HalfMended d cells name (half_place (node_at cells i) false) (p ++ (false ∷ [])) (side false f) S0 S1 low →
-    HalfMended d cells name (half_place (node_at cells i) true) (p ++ (true ∷ [])) (side true f) S1 S2 high →
-    Stands (suc d) f x → IsMended (suc d) cells name i p f S0 (put_at S2 i x) x
+pub both_mended : (d : ℕ) (cells : List Node) (name : ℕ → Owner) (i : ℕ) (p : List Bool) (f : List Bool → ℕ) (S0 S1 S2 : ℕ → Best) (low high x : Best) → IsTree (suc (suc d)) cells name i p →
+    HalfMended d cells name (half_place (cell_at cells i) false) (p ++ (false ∷ [])) (side false f) S0 S1 low →
+    HalfMended d cells name (half_place (cell_at cells i) true) (p ++ (true ∷ [])) (side true f) S1 S2 high →
+    IsRegionBest (suc d) f x → IsMended (suc d) cells name i p f S0 (put_at S2 i x) x
 unfolding AreBest IsTree
 both_mended d cells name i p f S0 S1 S2 low high x t l h s =
     let at : name i ≡ At p = t.0 in
-    let n = node_at cells i in
+    let n = cell_at cells i in
     let S3 = put_at S2 i x in
     let T : Bool → ℕ → Type 0 = λ b j. IsTree (suc d) cells name j (p ++ (b ∷ [])) in
     let R : Bool → ℕ → Type 0 = λ b j. AreBest (suc d) cells S3 (side b f) j in
@@ -157,26 +157,26 @@ both_mended d cells name i p f S0 S1 S2 low high x t l h s =
     in
     record {
       stands = s;
-      best = (subst (λ (y : Best). Stands (suc d) f y) (sym (put_here S2 i x)) s, λ b. elim b as (λ b. IfHalf (R b) (half_place n b)) [ true ↦ highs | false ↦ lows ]);
+      best = (subst (λ (y : Best). IsRegionBest (suc d) f y) (sym (put_here S2 i x)) s, λ b. elim b as (λ b. IfHalf (R b) (half_place n b)) [ true ↦ highs | false ↦ lows ]);
       keeps = λ j r e b. put_other S2 i j x (else_not name i j p r at e b) ∙ (h.keeps j r e (half_else p r true b) ∙ l.keeps j r e (half_else p r false b));
     }
 
 -- what is kept is the same everywhere
-pub mended_same : (d : ℕ) (cells : List Node) (name : ℕ → Place) (i : ℕ) (p : List Bool) (f : List Bool → ℕ) (S0 T S : ℕ → Best) (x : Best) → ((j : ℕ) → S j ≡ T j) → T i ≡ x → IsMended d cells name i p f S0 T x → IsMended d cells name i p f S0 S (S i)
+pub mended_same : (d : ℕ) (cells : List Node) (name : ℕ → Owner) (i : ℕ) (p : List Bool) (f : List Bool → ℕ) (S0 T S : ℕ → Best) (x : Best) → ((j : ℕ) → S j ≡ T j) → T i ≡ x → IsMended d cells name i p f S0 T x → IsMended d cells name i p f S0 S (S i)
 mended_same d cells name i p f S0 T S x e h m = record {
-  stands = subst (λ (y : Best). Stands d f y) (sym (e i ∙ h)) m.stands;
+  stands = subst (λ (y : Best). IsRegionBest d f y) (sym (e i ∙ h)) m.stands;
   best = best_same (suc d) cells T S f i e m.best;
   keeps = λ j r g b. e j ∙ m.keeps j r g b;
 }
 
 -- a node with no bits left
-pub end_mended : (cells : List Node) (name : ℕ → Place) (i : ℕ) (p : List Bool) (f : List Bool → ℕ) (S0 : ℕ → Best) (x : Best) → IsTree 1 cells name i p → Stands 0 f x → IsMended 0 cells name i p f S0 (put_at S0 i x) x
+pub end_mended : (cells : List Node) (name : ℕ → Owner) (i : ℕ) (p : List Bool) (f : List Bool → ℕ) (S0 : ℕ → Best) (x : Best) → IsTree 1 cells name i p → IsRegionBest 0 f x → IsMended 0 cells name i p f S0 (put_at S0 i x) x
 unfolding AreBest IsTree
 end_mended cells name i p f S0 x t s = record {
   stands = s;
   best = (
-    subst (λ (y : Best). Stands 0 f y) (sym (put_here S0 i x)) s,
-    λ b. nothing (λ j. AreBest 0 cells (put_at S0 i x) (side b f) j) (half_place (node_at cells i) b) (t.2.halves b),
+    subst (λ (y : Best). IsRegionBest 0 f y) (sym (put_here S0 i x)) s,
+    λ b. nothing (λ j. AreBest 0 cells (put_at S0 i x) (side b f) j) (half_place (cell_at cells i) b) (t.2.halves b),
   );
   keeps = λ j r e b. put_other S0 i j x (else_not name i j p r t.0 e b);
 }
@@ -191,17 +191,17 @@ under_nil : (h : ℕ) (R : Table) (a : List Bool) → length a ≡ 0 → under h
 under_nil h R [] e = refl
 under_nil h R (b ∷ a) e = absurd (omega arith)
 
-noted : (d : ℕ) (cells : List Node) (name : ℕ → Place) (i : ℕ) (p : List Bool) (f : List Bool → ℕ) (S0 S : ℕ → Best) (M N : List Change) (x : Best) → N ≡ M ++ record { place = i; best = x } ∷ [] →
+noted : (d : ℕ) (cells : List Node) (name : ℕ → Owner) (i : ℕ) (p : List Bool) (f : List Bool → ℕ) (S0 S : ℕ → Best) (M N : List Change) (x : Best) → N ≡ M ++ record { place = i; best = x } ∷ [] →
     IsMended d cells name i p f S0 (put_at (changed M S) i x) x → IsMended d cells name i p f S0 (changed N S) x
 noted d cells name i p f S0 S M N x e m =
     subst (λ (K : ℕ → Best). IsMended d cells name i p f S0 K x) (sym (ap (λ cs. changed cs S) e ∙ changed_push M (record { place = i; best = x }) S)) m
 
 pub mend_end : (cells : List Node) (i hop depth : ℕ) (S : ℕ → Best) (O N : List Change) (x : Best) → depth ≡ 0 → x ≡ best_one hop → N ≡ O ++ record { place = i; best = x } ∷ [] →
-    (name : ℕ → Place) (p : List Bool) → IsTree (suc depth) cells name i p → IsMended depth cells name i p (under hop (walks_at (suc depth) cells i).routes) (changed O S) (changed N S) x
+    (name : ℕ → Owner) (p : List Bool) → IsTree (suc depth) cells name i p → IsMended depth cells name i p (under hop (walks_at (suc depth) cells i).routes) (changed O S) (changed N S) x
 mend_end cells i hop zero S O N x z e n name p t =
     let R = (walks_at 1 cells i).routes in
     noted 0 cells name i p (under hop R) (changed O S) S O N x n
-    (end_mended cells name i p (under hop R) (changed O S) x t (subst (λ (y : Best). Stands 0 (under hop R) y) (sym e) (stands_one 0 hop (under hop R) (under_nil hop R))))
+    (end_mended cells name i p (under hop R) (changed O S) x t (subst (λ (y : Best). IsRegionBest 0 (under hop R) y) (sym e) (stands_one 0 hop (under hop R) (under_nil hop R))))
 mend_end cells i hop (suc depth) S O N x z e n name p t = absurd (omega (arith, z))
 
 -- what the halves kept, told by what they inherited
@@ -212,26 +212,26 @@ below_old d cells S n b h (Some j) e k =
     best_alike d cells S (side b (λ a. lpm (walks_by (walks_at d cells) n).routes a h)) (λ a. lpm (walks_at d cells j).routes a (inherit n.route.hop h)) j
     (λ a l. half_gets (walks_at d cells) n b h a ∙ ap (λ o. lpm (from_half (walks_at d cells) o).routes a (inherit n.route.hop h)) (sym e)) k
 
-pub untouched_half : (name : ℕ → Place) (p : List Bool) (b : Bool) (S S' : ℕ → Best) → Untouched p name S S' → Untouched (p ++ (b ∷ [])) name S S'
+pub untouched_half : (name : ℕ → Owner) (p : List Bool) (b : Bool) (S S' : ℕ → Best) → Untouched p name S S' → Untouched (p ++ (b ∷ [])) name S S'
 untouched_half name p b S S' u j r e h = u j r e (begins_less p r b h)
 
-untouched_after : (name : ℕ → Place) (p : List Bool) (b c : Bool) (S S' S'' : ℕ → Best) → b ≢ c → Untouched p name S S' → UntouchedElse (p ++ (b ∷ [])) name S' S'' → Untouched (p ++ (c ∷ [])) name S S''
+untouched_after : (name : ℕ → Owner) (p : List Bool) (b c : Bool) (S S' S'' : ℕ → Best) → b ≢ c → Untouched p name S S' → UntouchedElse (p ++ (b ∷ [])) name S' S'' → Untouched (p ++ (c ∷ [])) name S S''
 untouched_after name p b c S S' S'' n u k j r e h = k j r e (other_else p r c b (λ z. n (sym z)) h) ∙ u j r e (begins_less p r c h)
 
-module _ (cells : List Node) (i : ℕ) (n : Node) (at : n ≡ node_at cells i) (m depth : ℕ) (dm : suc m ≡ depth) (lo ho : Option ℕ) (le : lo ≡ half_place n false) (he : ho ≡ half_place n true) where
+module _ (cells : List Node) (i : ℕ) (n : Node) (at : n ≡ cell_at cells i) (m depth : ℕ) (dm : suc m ≡ depth) (lo ho : Option ℕ) (le : lo ≡ half_place n false) (he : ho ≡ half_place n true) where
   F : ℕ → Walks
   F = walks_at (suc m) cells
 
-  abbrev Trees : Option ℕ → (ℕ → Place) → List Bool → Type 0
+  abbrev Trees : Option ℕ → (ℕ → Owner) → List Bool → Type 0
   Trees o name p = IfHalf (λ j. IsTree (suc m) cells name j p) o
 
   abbrev Olds : Option ℕ → (ℕ → Best) → ℕ → Type 0
   Olds o S h = IfHalf (λ j. AreBest (suc m) cells S (λ a. lpm (walks_at (suc m) cells j).routes a h) j) o
 
-  half_is : (b : Bool) (o : Option ℕ) → o ≡ half_place n b → o ≡ half_place (node_at cells i) b
+  half_is : (b : Bool) (o : Option ℕ) → o ≡ half_place n b → o ≡ half_place (cell_at cells i) b
   half_is b o e = e ∙ ap (λ x. half_place x b) at
 
-  pub trees_of : (name : ℕ → Place) (p : List Bool) (b : Bool) (o : Option ℕ) → o ≡ half_place n b → IsTree (suc (suc m)) cells name i p → Trees o name (p ++ (b ∷ []))
+  pub trees_of : (name : ℕ → Owner) (p : List Bool) (b : Bool) (o : Option ℕ) → o ≡ half_place n b → IsTree (suc (suc m)) cells name i p → Trees o name (p ++ (b ∷ []))
   unfolding IsTree
   trees_of name p b o e t = subst (λ (y : Option ℕ). IfHalf (λ j. IsTree (suc m) cells name j (p ++ (b ∷ []))) y) (sym (half_is b o e)) (t.2.halves b)
 
@@ -240,19 +240,19 @@ module _ (cells : List Node) (i : ℕ) (n : Node) (at : n ≡ node_at cells i) (
   olds_of S b o h e k =
       below_old (suc m) cells S n b h o e
       (subst (λ (y : Node). IfHalf (λ j. AreBest (suc m) cells S (side b (λ a. lpm (walks_by (walks_at (suc m) cells) y).routes a h)) j) o) (sym at)
-      (subst (λ (y : Option ℕ). IfHalf (λ j. AreBest (suc m) cells S (side b (λ a. lpm (walks_by (walks_at (suc m) cells) (node_at cells i)).routes a h)) j) y) (sym (half_is b o e)) (k.1 b)))
+      (subst (λ (y : Option ℕ). IfHalf (λ j. AreBest (suc m) cells S (side b (λ a. lpm (walks_by (walks_at (suc m) cells) (cell_at cells i)).routes a h)) j) y) (sym (half_is b o e)) (k.1 b)))
 
   -- a half as the halves of the node are told
-  told_half : (name : ℕ → Place) (p : List Bool) (b : Bool) (o : Option ℕ) (f g : List Bool → ℕ) (old new : ℕ → Best) (x : Best) → o ≡ half_place n b → ((a : List Bool) → length a ≡ m → f a ≡ g a) →
-      HalfMended m cells name o p f old new x → HalfMended m cells name (half_place (node_at cells i) b) p g old new x
+  told_half : (name : ℕ → Owner) (p : List Bool) (b : Bool) (o : Option ℕ) (f g : List Bool → ℕ) (old new : ℕ → Best) (x : Best) → o ≡ half_place n b → ((a : List Bool) → length a ≡ m → f a ≡ g a) →
+      HalfMended m cells name o p f old new x → HalfMended m cells name (half_place (cell_at cells i) b) p g old new x
   told_half name p b o f g old new x e u k = subst (λ (y : Option ℕ). HalfMended m cells name y p g old new x) (half_is b o e) (half_alike m cells name o p f g old new x u k)
 
   pub mend_node : (hop : ℕ) (S : ℕ → Best) (O M L N : List Change) (low high x : Best) →
-      ((name : ℕ → Place) (p : List Bool) (h : ℕ) → Trees lo name p → Olds lo S h → Untouched p name S (changed O S) → HalfMended m cells name lo p (λ a. lpm (from_half (walks_at (suc m) cells) lo).routes a hop) (changed O S) (changed M S) low) →
-      ((name : ℕ → Place) (p : List Bool) (h : ℕ) → Trees ho name p → Olds ho S h → Untouched p name S (changed M S) → HalfMended m cells name ho p (λ a. lpm (from_half (walks_at (suc m) cells) ho).routes a hop) (changed M S) (changed L S) high) →
-      ((d : ℕ) (f : List Bool → ℕ) → Stands d (side false f) low → Stands d (side true f) high → Stands (suc d) f x) →
+      ((name : ℕ → Owner) (p : List Bool) (h : ℕ) → Trees lo name p → Olds lo S h → Untouched p name S (changed O S) → HalfMended m cells name lo p (λ a. lpm (from_half (walks_at (suc m) cells) lo).routes a hop) (changed O S) (changed M S) low) →
+      ((name : ℕ → Owner) (p : List Bool) (h : ℕ) → Trees ho name p → Olds ho S h → Untouched p name S (changed M S) → HalfMended m cells name ho p (λ a. lpm (from_half (walks_at (suc m) cells) ho).routes a hop) (changed M S) (changed L S) high) →
+      ((d : ℕ) (f : List Bool → ℕ) → IsRegionBest d (side false f) low → IsRegionBest d (side true f) high → IsRegionBest (suc d) f x) →
       N ≡ L ++ record { place = i; best = x } ∷ [] →
-      (name : ℕ → Place) (p : List Bool) (h : ℕ) → IsTree (suc depth) cells name i p → AreBest (suc depth) cells S (λ a. lpm (walks_at (suc depth) cells i).routes a h) i → Untouched p name S (changed O S) →
+      (name : ℕ → Owner) (p : List Bool) (h : ℕ) → IsTree (suc depth) cells name i p → AreBest (suc depth) cells S (λ a. lpm (walks_at (suc depth) cells i).routes a h) i → Untouched p name S (changed O S) →
       IsMended depth cells name i p (under hop (walks_at (suc depth) cells i).routes) (changed O S) (changed N S) x
   unfolding walks_at F
   mend_node hop S O M L N low high x cl ch j e name p h =
@@ -260,7 +260,7 @@ module _ (cells : List Node) (i : ℕ) (n : Node) (at : n ≡ node_at cells i) (
       (λ t k u.
       let f = under hop (walks_at (suc (suc m)) cells i).routes in
       let gets : (b : Bool) (o : Option ℕ) → o ≡ half_place n b → (a : List Bool) → length a ≡ m → lpm (from_half (walks_at (suc m) cells) o).routes a hop ≡ side b f a =
-      λ b o v a l. ap (λ R. lpm R a hop) (ap (λ y. (from_half (walks_at (suc m) cells) y).routes) (half_is b o v) ∙ sym (half_routes (walks_at (suc m) cells) (node_at cells i) b)) in
+      λ b o v a l. ap (λ R. lpm R a hop) (ap (λ y. (from_half (walks_at (suc m) cells) y).routes) (half_is b o v) ∙ sym (half_routes (walks_at (suc m) cells) (cell_at cells i) b)) in
       let l = told_half name (p ++ (false ∷ [])) false lo (λ a. lpm (from_half (walks_at (suc m) cells) lo).routes a hop) (side false f) (changed O S) (changed M S) low le (gets false lo le)
       (cl name (p ++ (false ∷ [])) (inherit n.route.hop h) (trees_of name p false lo le t) (olds_of S false lo h le k) (untouched_half name p false S (changed O S) u)) in
       let r = told_half name (p ++ (true ∷ [])) true ho (λ a. lpm (from_half (walks_at (suc m) cells) ho).routes a hop) (side true f) (changed M S) (changed L S) high he (gets true ho he)
@@ -268,42 +268,42 @@ module _ (cells : List Node) (i : ℕ) (n : Node) (at : n ≡ node_at cells i) (
       noted (suc m) cells name i p f (changed O S) S L N x e (both_mended m cells name i p f (changed O S) (changed M S) (changed L S) low high x t l r (j m f l.stands r.stands)))
 
   -- what a half keeps is not changed where the other half is told
-  same_half : (o : Option ℕ) (name : ℕ → Place) (p : List Bool) (x : Best) (S S' : ℕ → Best) → Trees o name (p ++ (false ∷ [])) → UntouchedElse (p ++ (true ∷ [])) name S S' → best_behind S' o x ≡ best_behind S o x
+  same_half : (o : Option ℕ) (name : ℕ → Owner) (p : List Bool) (x : Best) (S S' : ℕ → Best) → Trees o name (p ++ (false ∷ [])) → UntouchedElse (p ++ (true ∷ [])) name S S' → best_behind S' o x ≡ best_behind S o x
   same_half None name p x S S' t k = refl
   same_half (Some j) name p x S S' t k = k j (p ++ (false ∷ [])) (tree_name (suc m) cells name j (p ++ (false ∷ [])) t) (other_else p (p ++ (false ∷ [])) false true (λ z. cc) (begins_self (p ++ (false ∷ []))))
 
   pub settle_node : (inherited hop : ℕ) (S0 S1 S2 S3 : ℕ → Best) (x : Best) → hop ≡ unwrap_or n.route.hop inherited →
-      ((name : ℕ → Place) (p : List Bool) → Trees lo name p → HalfMended m cells name lo p (λ a. lpm (from_half (walks_at (suc m) cells) lo).routes a hop) S0 S1 (best_behind S1 lo (best_one hop))) →
-      ((name : ℕ → Place) (p : List Bool) → Trees ho name p → HalfMended m cells name ho p (λ a. lpm (from_half (walks_at (suc m) cells) ho).routes a hop) S1 S2 (best_behind S2 ho (best_one hop))) →
-      ((d : ℕ) (f : List Bool → ℕ) → Stands d (side false f) (best_behind S2 lo (best_one hop)) → Stands d (side true f) (best_behind S2 ho (best_one hop)) → Stands (suc d) f x) →
+      ((name : ℕ → Owner) (p : List Bool) → Trees lo name p → HalfMended m cells name lo p (λ a. lpm (from_half (walks_at (suc m) cells) lo).routes a hop) S0 S1 (best_behind S1 lo (best_one hop))) →
+      ((name : ℕ → Owner) (p : List Bool) → Trees ho name p → HalfMended m cells name ho p (λ a. lpm (from_half (walks_at (suc m) cells) ho).routes a hop) S1 S2 (best_behind S2 ho (best_one hop))) →
+      ((d : ℕ) (f : List Bool → ℕ) → IsRegionBest d (side false f) (best_behind S2 lo (best_one hop)) → IsRegionBest d (side true f) (best_behind S2 ho (best_one hop)) → IsRegionBest (suc d) f x) →
       (i < length cells → (j : ℕ) → S3 j ≡ put_at S2 i x j) →
-      (name : ℕ → Place) (p : List Bool) → IsTree (suc depth) cells name i p → IsMended depth cells name i p (λ a. lpm (walks_at (suc depth) cells i).routes a inherited) S0 S3 (S3 i)
+      (name : ℕ → Owner) (p : List Bool) → IsTree (suc depth) cells name i p → IsMended depth cells name i p (λ a. lpm (walks_at (suc depth) cells i).routes a inherited) S0 S3 (S3 i)
   unfolding walks_at F IsTree
   settle_node inherited hop S0 S1 S2 S3 x hop_is cl ch j made name p =
       subst (λ (D : ℕ). IsTree (suc D) cells name i p → IsMended D cells name i p (λ a. lpm (walks_at (suc D) cells i).routes a inherited) S0 S3 (S3 i)) dm
       (λ t.
       let G = walks_at (suc m) cells in
-      let f : List Bool → ℕ = λ a. lpm (walks_by G (node_at cells i)).routes a inherited in
-      let own : inherit (node_at cells i).route.hop inherited ≡ hop = ap (λ (y : Node). inherit y.route.hop inherited) (sym at) ∙ (given_is n.route.hop inherited ∙ sym hop_is) in
+      let f : List Bool → ℕ = λ a. lpm (walks_by G (cell_at cells i)).routes a inherited in
+      let own : inherit (cell_at cells i).route.hop inherited ≡ hop = ap (λ (y : Node). inherit y.route.hop inherited) (sym at) ∙ (given_is n.route.hop inherited ∙ sym hop_is) in
       let gets : (b : Bool) (o : Option ℕ) → o ≡ half_place n b → (a : List Bool) → length a ≡ m → lpm (from_half G o).routes a hop ≡ side b f a =
-      λ b o v a l. sym (half_gets G (node_at cells i) b inherited a ∙ (ap (λ h. lpm (from_half G (half_place (node_at cells i) b)).routes a h) own ∙ ap (λ y. lpm (from_half G y).routes a hop) (sym (half_is b o v)))) in
+      λ b o v a l. sym (half_gets G (cell_at cells i) b inherited a ∙ (ap (λ h. lpm (from_half G (half_place (cell_at cells i) b)).routes a h) own ∙ ap (λ y. lpm (from_half G y).routes a hop) (sym (half_is b o v)))) in
       let l = told_half name (p ++ (false ∷ [])) false lo (λ a. lpm (from_half G lo).routes a hop) (side false f) S0 S1 (best_behind S1 lo (best_one hop)) le (gets false lo le) (cl name (p ++ (false ∷ [])) (trees_of name p false lo le t)) in
       let r = told_half name (p ++ (true ∷ [])) true ho (λ a. lpm (from_half G ho).routes a hop) (side true f) S1 S2 (best_behind S2 ho (best_one hop)) he (gets true ho he) (ch name (p ++ (true ∷ [])) (trees_of name p true ho he t)) in
       let same : best_behind S2 lo (best_one hop) ≡ best_behind S1 lo (best_one hop) = same_half lo name p (best_one hop) S1 S2 (trees_of name p false lo le t) r.keeps in
-      let s : Stands (suc m) f x = j m f (subst (λ (y : Best). Stands m (side false f) y) (sym same) l.stands) r.stands in
+      let s : IsRegionBest (suc m) f x = j m f (subst (λ (y : Best). IsRegionBest m (side false f) y) (sym same) l.stands) r.stands in
       mended_same (suc m) cells name i p f S0 (put_at S2 i x) S3 x (made t.1) (put_here S2 i x)
       (both_mended m cells name i p f S0 S1 S2 (best_behind S1 lo (best_one hop)) (best_behind S2 ho (best_one hop)) x t l r s))
 
-pub settle_end : (cells : List Node) (i inherited hop depth : ℕ) (n : Node) (S0 S3 : ℕ → Best) (x : Best) → depth ≡ 0 → n ≡ node_at cells i → hop ≡ unwrap_or n.route.hop inherited → x ≡ best_one hop → (i < length cells → (j : ℕ) → S3 j ≡ put_at S0 i x j) →
-    (name : ℕ → Place) (p : List Bool) → IsTree (suc depth) cells name i p → IsMended depth cells name i p (λ a. lpm (walks_at (suc depth) cells i).routes a inherited) S0 S3 (S3 i)
+pub settle_end : (cells : List Node) (i inherited hop depth : ℕ) (n : Node) (S0 S3 : ℕ → Best) (x : Best) → depth ≡ 0 → n ≡ cell_at cells i → hop ≡ unwrap_or n.route.hop inherited → x ≡ best_one hop → (i < length cells → (j : ℕ) → S3 j ≡ put_at S0 i x j) →
+    (name : ℕ → Owner) (p : List Bool) → IsTree (suc depth) cells name i p → IsMended depth cells name i p (λ a. lpm (walks_at (suc depth) cells i).routes a inherited) S0 S3 (S3 i)
 unfolding walks_at IsTree
 settle_end cells i inherited hop zero n S0 S3 x z at hop_is e made name p t =
     let f : List Bool → ℕ = λ a. lpm (walks_at 1 cells i).routes a inherited in
-    let own : inherit (node_at cells i).route.hop inherited ≡ hop = ap (λ (y : Node). inherit y.route.hop inherited) (sym at) ∙ (given_is n.route.hop inherited ∙ sym hop_is) in
+    let own : inherit (cell_at cells i).route.hop inherited ≡ hop = ap (λ (y : Node). inherit y.route.hop inherited) (sym at) ∙ (given_is n.route.hop inherited ∙ sym hop_is) in
     let gets : (a : List Bool) → length a ≡ 0 → f a ≡ hop =
-    λ a l. ap f (nil_is a l) ∙ (lpm_nil (walks_at 1 cells i).routes inherited ∙ (ap (λ o. inherit o inherited) (own_route (walks_at 0 cells) (node_at cells i)) ∙ own)) in
+    λ a l. ap f (nil_is a l) ∙ (lpm_nil (walks_at 1 cells i).routes inherited ∙ (ap (λ o. inherit o inherited) (own_route (walks_at 0 cells) (cell_at cells i)) ∙ own)) in
     mended_same 0 cells name i p f S0 (put_at S0 i x) S3 x (made t.1) (put_here S0 i x)
-    (end_mended cells name i p f S0 x t (subst (λ (y : Best). Stands 0 f y) (sym e) (stands_one 0 hop f gets)))
+    (end_mended cells name i p f S0 x t (subst (λ (y : Best). IsRegionBest 0 f y) (sym e) (stands_one 0 hop f gets)))
   where
     nil_is : (a : List Bool) → length a ≡ 0 → a ≡ []
     nil_is [] l = refl
@@ -312,7 +312,7 @@ settle_end cells i inherited hop (suc depth) n S0 S3 x z at hop_is e made name p
 
 -- ---- a half, which inherits a hop
 
-pub half_none : (cells : List Node) (depth hop : ℕ) (o : Option ℕ) (S : ℕ → Best) (x : Best) → o ≡ None → x ≡ best_one hop → (name : ℕ → Place) (p : List Bool) →
+pub half_none : (cells : List Node) (depth hop : ℕ) (o : Option ℕ) (S : ℕ → Best) (x : Best) → o ≡ None → x ≡ best_one hop → (name : ℕ → Owner) (p : List Bool) →
     HalfMended depth cells name o p (λ a. lpm (from_half (walks_at (suc depth) cells) o).routes a hop) S S x
 half_none cells depth hop o S x e y name p =
     subst (λ (o : Option ℕ). HalfMended depth cells name o p (λ a. lpm (from_half (walks_at (suc depth) cells) o).routes a hop) S S x) (sym e)
@@ -321,16 +321,16 @@ half_none cells depth hop o S x e y name p =
 kept_route : (R : Table) (g h k : ℕ) (a : List Bool) → root R ≡ Some g → lpm R a h ≡ lpm R a k
 kept_route R g h k a e = lpm_under R h a ∙ (ap (λ o. under (inherit o h) R a) e ∙ sym (lpm_under R k a ∙ ap (λ o. under (inherit o k) R a) e))
 
-tree_root : (d : ℕ) (cells : List Node) (j : ℕ) (n : Node) → n ≡ node_at cells j → root (walks_at (suc d) cells j).routes ≡ n.route.hop
+tree_root : (d : ℕ) (cells : List Node) (j : ℕ) (n : Node) → n ≡ cell_at cells j → root (walks_at (suc d) cells j).routes ≡ n.route.hop
 unfolding walks_at
-tree_root d cells j n e = own_route (walks_at d cells) (node_at cells j) ∙ sym (ap (λ (x : Node). x.route.hop) e)
+tree_root d cells j n e = own_route (walks_at d cells) (cell_at cells j) ∙ sym (ap (λ (x : Node). x.route.hop) e)
 
 pub open_own : (o : Option ℕ) (passes b : Bool) → b ≡ (not (is_some o) && passes) → b ≡ true → o ≡ None
 open_own None passes b e t = refl
 open_own (Some g) passes b e t = let x : false ≡ true = sym e ∙ t in cc
 
 -- no address of a node's region gets what the node inherits
-shut_gets : (d : ℕ) (cells : List Node) (j : ℕ) (n : Node) → n ≡ node_at cells j → (name : ℕ → Place) (p : List Bool) → IsTree (suc d) cells name j p → (h k : ℕ) → (not (is_some n.route.hop) && (cover_in n.route).passes) ≡ false →
+shut_gets : (d : ℕ) (cells : List Node) (j : ℕ) (n : Node) → n ≡ cell_at cells j → (name : ℕ → Owner) (p : List Bool) → IsTree (suc d) cells name j p → (h k : ℕ) → (not (is_some n.route.hop) && (cover_in n.route).passes) ≡ false →
     (a : List Bool) → length a ≡ d → lpm (walks_at (suc d) cells j).routes a h ≡ lpm (walks_at (suc d) cells j).routes a k
 unfolding walks_at IsTree
 shut_gets d cells j n at name p t h k shut a l = by_own n.route.hop refl
@@ -338,10 +338,10 @@ shut_gets d cells j n at name p t h k shut a l = by_own n.route.hop refl
     by_own : (o : Option ℕ) → n.route.hop ≡ o → lpm (walks_at (suc d) cells j).routes a h ≡ lpm (walks_at (suc d) cells j).routes a k
     by_own (Some g) e = kept_route (walks_at (suc d) cells j).routes g h k a (tree_root d cells j n at ∙ e)
     by_own None e =
-        covered_gets (walks_at (suc d) cells j).routes (cover_in (node_at cells j).route) d t.2.covers.routes (walk_fits d cells j)
+        covered_gets (walks_at (suc d) cells j).routes (cover_in (cell_at cells j).route) d t.2.covers.routes (walk_fits d cells j)
         (ap (λ (x : Node). (cover_in x.route).passes) (sym at) ∙ (ap (λ o. not (is_some o) && (cover_in n.route).passes) (sym e) ∙ shut)) h k a l
 
-module _ (cells : List Node) (depth hop : ℕ) (o : Option ℕ) (j : ℕ) (n : Node) (at : n ≡ node_at cells j) (some : o ≡ Some j) (name : ℕ → Place) (p : List Bool) where
+module _ (cells : List Node) (depth hop : ℕ) (o : Option ℕ) (j : ℕ) (n : Node) (at : n ≡ cell_at cells j) (some : o ≡ Some j) (name : ℕ → Owner) (p : List Bool) where
   -- a half that stays as it was
   pub half_stays : (h : ℕ) (S S0 : ℕ → Best) (x : Best) → (not (is_some n.route.hop) && (cover_in n.route).passes) ≡ false → x ≡ S j →
       IfHalf (λ j. IsTree (suc depth) cells name j p) o → IfHalf (λ j. AreBest (suc depth) cells S (λ a. lpm (walks_at (suc depth) cells j).routes a h) j) o → Untouched p name S S0 →
@@ -354,7 +354,7 @@ module _ (cells : List Node) (depth hop : ℕ) (o : Option ℕ) (j : ℕ) (n : N
       let gets : (a : List Bool) → length a ≡ depth → lpm R a h ≡ lpm R a hop = shut_gets depth cells j n at name p t' h hop shut in
       subst (λ (z : Option ℕ). HalfMended depth cells name z p (λ a. lpm (from_half (walks_at (suc depth) cells) z).routes a hop) S0 S0 x) (sym some)
       (record {
-        stands = stands_alike depth (λ a. lpm R a h) (λ a. lpm R a hop) x gets (subst (λ (z : Best). Stands depth (λ a. lpm R a h) z) (sym y) k'.0);
+        stands = stands_alike depth (λ a. lpm R a h) (λ a. lpm R a hop) x gets (subst (λ (z : Best). IsRegionBest depth (λ a. lpm R a h) z) (sym y) k'.0);
         best = best_alike (suc depth) cells S0 (λ a. lpm R a h) (λ a. lpm R a hop) j (λ a l. gets a (omega (arith, l))) (best_carry (suc depth) cells cells S S0 name (λ a. lpm R a h) j p t' (λ z q e b. (refl, u z q e b)) k');
         keeps = λ z q e b. refl;
       })
@@ -374,16 +374,16 @@ module _ (cells : List Node) (depth hop : ℕ) (o : Option ℕ) (j : ℕ) (n : N
 
 -- ---- the way to a path whose route changes
 
-pub plan_end : (cells : List Node) (depth i left q inherited hop : ℕ) (set : Option ℕ) (name : ℕ → Place) (p : List Bool) (S0 S1 : ℕ → Best) (x : Best) → left ≡ 0 → hop ≡ unwrap_or set inherited →
+pub plan_end : (cells : List Node) (depth i left q inherited hop : ℕ) (set : Option ℕ) (name : ℕ → Owner) (p : List Bool) (S0 S1 : ℕ → Best) (x : Best) → left ≡ 0 → hop ≡ unwrap_or set inherited →
     IsMended depth cells name i p (under hop (walks_at (suc depth) cells i).routes) S0 S1 x → IsMended depth cells name i p (λ a. lpm (edit (bits_of left q) set (walks_at (suc depth) cells i).routes) a inherited) S0 S1 x
 unfolding walks_at
 plan_end cells depth i left q inherited hop set name p S0 S1 x z e m =
     let R = (walks_at (suc depth) cells i).routes in
     mended_alike depth cells name i p (under hop R) (λ a. lpm (edit (bits_of left q) set R) a inherited) S0 S1 x
-    (λ a l. sym (ap (λ r. lpm (edit r set R) a inherited) (no_bits left q z) ∙ (own_edit (walks_at depth cells) (node_at cells i) set inherited a ∙ ap (λ h. under h R a) (given_is set inherited ∙ sym e)))) m
+    (λ a l. sym (ap (λ r. lpm (edit r set R) a inherited) (no_bits left q z) ∙ (own_edit (walks_at depth cells) (cell_at cells i) set inherited a ∙ ap (λ h. under h R a) (given_is set inherited ∙ sym e)))) m
 
 -- the half beside the way
-far_half : (cells : List Node) (m hop : ℕ) (o : Option ℕ) (S S' : ℕ → Best) (name : ℕ → Place) (p : List Bool) → IfHalf (λ j. IsTree (suc m) cells name j p) o → IfHalf (λ j. AreBest (suc m) cells S (λ a. lpm (walks_at (suc m) cells j).routes a hop) j) o → Untouched p name S S' →
+far_half : (cells : List Node) (m hop : ℕ) (o : Option ℕ) (S S' : ℕ → Best) (name : ℕ → Owner) (p : List Bool) → IfHalf (λ j. IsTree (suc m) cells name j p) o → IfHalf (λ j. AreBest (suc m) cells S (λ a. lpm (walks_at (suc m) cells j).routes a hop) j) o → Untouched p name S S' →
     HalfMended m cells name o p (λ a. lpm (from_half (walks_at (suc m) cells) o).routes a hop) S' S' (best_behind S o (best_one hop))
 unfolding AreBest
 far_half cells m hop None S S' name p t k u = record { stands = stands_one m hop (λ a. hop) (λ a l. refl); best = tt; keeps = λ j r f b. refl }
@@ -393,22 +393,22 @@ far_half cells m hop (Some j) S S' name p t k u = record {
   keeps = λ z q e b. refl;
 }
 
-module _ (cells : List Node) (i : ℕ) (n : Node) (at : n ≡ node_at cells i) (m depth : ℕ) (dm : suc m ≡ depth) (b : Bool) (no fo : Option ℕ) (ne : no ≡ half_place n b) (fe : fo ≡ half_place n (not b))
+module _ (cells : List Node) (i : ℕ) (n : Node) (at : n ≡ cell_at cells i) (m depth : ℕ) (dm : suc m ≡ depth) (b : Bool) (no fo : Option ℕ) (ne : no ≡ half_place n b) (fe : fo ≡ half_place n (not b))
     (left q inherited hop : ℕ) (set : Option ℕ) (z : left ≢ 0) (bit : b ≡ nat_eq (bit_at q (left - 1)) 1) (hop_is : hop ≡ unwrap_or n.route.hop inherited) where
   pub plan_node : (S : ℕ → Best) (O L N : List Change) (near far x : Best) →
-      ((name : ℕ → Place) (p : List Bool) → IfHalf (λ j. IsTree (suc m) cells name j p) no → IfHalf (λ j. AreBest (suc m) cells S (λ a. lpm (walks_at (suc m) cells j).routes a hop) j) no → Untouched p name S (changed O S) →
+      ((name : ℕ → Owner) (p : List Bool) → IfHalf (λ j. IsTree (suc m) cells name j p) no → IfHalf (λ j. AreBest (suc m) cells S (λ a. lpm (walks_at (suc m) cells j).routes a hop) j) no → Untouched p name S (changed O S) →
       HalfMended m cells name no p (λ a. lpm (edit (bits_of (left - 1) q) set (from_half (walks_at (suc m) cells) no).routes) a hop) (changed O S) (changed L S) near) →
       far ≡ best_behind S fo (best_one hop) →
-      ((d : ℕ) (f : List Bool → ℕ) → Stands d (side b f) near → Stands d (side (not b) f) far → Stands (suc d) f x) →
+      ((d : ℕ) (f : List Bool → ℕ) → IsRegionBest d (side b f) near → IsRegionBest d (side (not b) f) far → IsRegionBest (suc d) f x) →
       N ≡ L ++ record { place = i; best = x } ∷ [] →
-      (name : ℕ → Place) (p : List Bool) → IsTree (suc depth) cells name i p → AreBest (suc depth) cells S (λ a. lpm (walks_at (suc depth) cells i).routes a inherited) i → Untouched p name S (changed O S) →
+      (name : ℕ → Owner) (p : List Bool) → IsTree (suc depth) cells name i p → AreBest (suc depth) cells S (λ a. lpm (walks_at (suc depth) cells i).routes a inherited) i → Untouched p name S (changed O S) →
       IsMended depth cells name i p (λ a. lpm (edit (bits_of left q) set (walks_at (suc depth) cells i).routes) a inherited) (changed O S) (changed N S) x
   unfolding walks_at
   plan_node S O L N near far x cn fr j e name p =
       subst (λ (D : ℕ). IsTree (suc D) cells name i p → AreBest (suc D) cells S (λ a. lpm (walks_at (suc D) cells i).routes a inherited) i → Untouched p name S (changed O S) → IsMended D cells name i p (λ a. lpm (edit (bits_of left q) set (walks_at (suc D) cells i).routes) a inherited) (changed O S) (changed N S) x) dm
       (λ t k u.
       let G = walks_at (suc m) cells in
-      let nd = node_at cells i in
+      let nd = cell_at cells i in
       let P = bits_of (left - 1) q in
       let f : List Bool → ℕ = λ a. lpm (edit (bits_of left q) set (walks_by G nd).routes) a inherited in
       let own : inherit nd.route.hop inherited ≡ hop = ap (λ (x : Node). inherit x.route.hop inherited) (sym at) ∙ (given_is n.route.hop inherited ∙ sym hop_is) in
@@ -444,24 +444,24 @@ module _ (cells : List Node) (i : ℕ) (n : Node) (at : n ≡ node_at cells i) (
       differ true e = cc
       differ false e = cc
 
-      by_side : (b : Bool) (S0 S1 : ℕ → Best) (f : List Bool → ℕ) (name : ℕ → Place) (p : List Bool) → IsTree (suc (suc m)) cells name i p → HalfMended m cells name (half_place (node_at cells i) b) (p ++ (b ∷ [])) (side b f) S0 S1 near →
-          HalfMended m cells name (half_place (node_at cells i) (not b)) (p ++ (not b ∷ [])) (side (not b) f) S0 S0 far → HalfMended m cells name (half_place (node_at cells i) (not b)) (p ++ (not b ∷ [])) (side (not b) f) S1 S1 far → Stands (suc m) f x →
+      by_side : (b : Bool) (S0 S1 : ℕ → Best) (f : List Bool → ℕ) (name : ℕ → Owner) (p : List Bool) → IsTree (suc (suc m)) cells name i p → HalfMended m cells name (half_place (cell_at cells i) b) (p ++ (b ∷ [])) (side b f) S0 S1 near →
+          HalfMended m cells name (half_place (cell_at cells i) (not b)) (p ++ (not b ∷ [])) (side (not b) f) S0 S0 far → HalfMended m cells name (half_place (cell_at cells i) (not b)) (p ++ (not b ∷ [])) (side (not b) f) S1 S1 far → IsRegionBest (suc m) f x →
           IsMended (suc m) cells name i p f S0 (put_at S1 i x) x
       by_side true S0 S1 f name p t l r r' s = both_mended m cells name i p f S0 S0 S1 far near x t r l s
       by_side false S0 S1 f name p t l r r' s = both_mended m cells name i p f S0 S1 S1 near far x t l r' s
 
 -- ---- a half on the way
 
-pub way_none : (cells : List Node) (depth left q inherited : ℕ) (set o : Option ℕ) (S : ℕ → Best) (x : Best) → o ≡ None → left ≤ depth → ((d q : ℕ) → left ≤ d → Stands d (λ a. lpm (edit (bits_of left q) set []) a inherited) x) → (name : ℕ → Place) (p : List Bool) →
+pub way_none : (cells : List Node) (depth left q inherited : ℕ) (set o : Option ℕ) (S : ℕ → Best) (x : Best) → o ≡ None → left ≤ depth → ((d q : ℕ) → left ≤ d → IsRegionBest d (λ a. lpm (edit (bits_of left q) set []) a inherited) x) → (name : ℕ → Owner) (p : List Bool) →
     HalfMended depth cells name o p (λ a. lpm (edit (bits_of left q) set (from_half (walks_at (suc depth) cells) o).routes) a inherited) S S x
 way_none cells depth left q inherited set o S x e l s name p =
     subst (λ (o : Option ℕ). HalfMended depth cells name o p (λ a. lpm (edit (bits_of left q) set (from_half (walks_at (suc depth) cells) o).routes) a inherited) S S x) (sym e)
     (record { stands = s depth q l; best = tt; keeps = λ j r f b. refl })
 
 pub way_some : (cells : List Node) (depth left q h : ℕ) (set : Option ℕ) (o : Option ℕ) (j : ℕ) (S S0 S1 : ℕ → Best) (x : Option Best) → o ≡ Some j →
-    ((name : ℕ → Place) (p : List Bool) → IsTree (suc depth) cells name j p → AreBest (suc depth) cells S (λ a. lpm (walks_at (suc depth) cells j).routes a h) j → Untouched p name S S0 →
+    ((name : ℕ → Owner) (p : List Bool) → IsTree (suc depth) cells name j p → AreBest (suc depth) cells S (λ a. lpm (walks_at (suc depth) cells j).routes a h) j → Untouched p name S S0 →
     IsMended depth cells name j p (λ a. lpm (edit (bits_of left q) set (walks_at (suc depth) cells j).routes) a h) S0 S1 (kept_or x (S j))) →
-    (name : ℕ → Place) (p : List Bool) → IfHalf (λ j. IsTree (suc depth) cells name j p) o → IfHalf (λ j. AreBest (suc depth) cells S (λ a. lpm (walks_at (suc depth) cells j).routes a h) j) o → Untouched p name S S0 →
+    (name : ℕ → Owner) (p : List Bool) → IfHalf (λ j. IsTree (suc depth) cells name j p) o → IfHalf (λ j. AreBest (suc depth) cells S (λ a. lpm (walks_at (suc depth) cells j).routes a h) j) o → Untouched p name S S0 →
     HalfMended depth cells name o p (λ a. lpm (edit (bits_of left q) set (from_half (walks_at (suc depth) cells) o).routes) a h) S0 S1 (kept_or x (best_behind S o (best_one h)))
 way_some cells depth left q h set o j S S0 S1 x e f name p =
     subst (λ (o : Option ℕ). IfHalf (λ j. IsTree (suc depth) cells name j p) o → IfHalf (λ j. AreBest (suc depth) cells S (λ a. lpm (walks_at (suc depth) cells j).routes a h) j) o → Untouched p name S S0 →

@@ -9,7 +9,7 @@ use Rattle.table_model.specs.Regions.{join}
 use Rattle.orig_tree.specs.Walk.{Walks, no_walks, walks_of, AreMadeTo, has_node}
 use Rattle.orig_tree.specs.Cover.{IsCover}
 use Rattle.orig_tree.specs.Slots.{AreCovers}
-use Rattle.orig_tree.specs.Arena.{Place, At, Spare, Nowhere, blank, bare_cover_is, node_at, half_place, from_half, walks_by, walks_at, IfHalf, link, IsNode, IsTree, SpareFrom, IsHeld, IsRoomier, GivesPlace, with_half, IsSplit, HasRoom}
+use Rattle.orig_tree.specs.Arena.{Owner, At, Spare, Nowhere, blank_cell, bare_cover_is, cell_at, half_place, from_half, walks_by, walks_at, IfHalf, link, IsNode, IsTree, SpareFrom, HasSpares, IsRoomier, GivesPlace, with_half, IsSplit, MakesRoom}
 use Rattle.orig_tree.specs.Packed.{cover_in}
 use Rattle.orig_tree.specs.declared.node.Node.{Node}
 use Rattle.orig_tree.proofs.Covers.{bare_cover}
@@ -23,10 +23,10 @@ pub end_node : (cells : List Node) (i left q d : ℕ) → left ≡ 0 → left < 
 unfolding walks_at
 end_node cells i left q zero z l = absurd (omega arith)
 end_node cells i left q (suc d) z l =
-    let n = node_at cells i in
+    let n = cell_at cells i in
     sym (room_here (walks_by (walks_at d cells) n) n.route.hop n.entry.hop (from_half (walks_at d cells) (half_place n false)) (from_half (walks_at d cells) (half_place n true)) left q z refl)
 
-half_has : (cells : List Node) (n : Node) (i left q : ℕ) (b : Bool) (o : Option ℕ) (d : ℕ) → n ≡ node_at cells i → o ≡ half_place n b → left ≢ 0 → b ≡ nat_eq (bit_at q (left - 1)) 1 →
+half_has : (cells : List Node) (n : Node) (i left q : ℕ) (b : Bool) (o : Option ℕ) (d : ℕ) → n ≡ cell_at cells i → o ≡ half_place n b → left ≢ 0 → b ≡ nat_eq (bit_at q (left - 1)) 1 →
     has_node (bits_of (left - 1) q) (from_half (walks_at d cells) o).nodes ≡ has_node (bits_of left q) (walks_at (suc d) cells i).nodes
 unfolding walks_at
 half_has cells n i left q b o d at half z k =
@@ -35,13 +35,13 @@ half_has cells n i left q b o d at half z k =
     ∙ (room_half b n.route.hop n.entry.hop (from_half f (half_place n false)) (from_half f (half_place n true)) left q z k
     ∙ ap (λ (w : Walks). has_node (bits_of left q) w.nodes) (ap (walks_by f) at))
 
-pub step_node : (cells : List Node) (n : Node) (i left q : ℕ) (b : Bool) (o : Option ℕ) (out : Bool) (d : ℕ) → n ≡ node_at cells i → o ≡ half_place n b → left ≢ 0 → b ≡ nat_eq (bit_at q (left - 1)) 1 →
+pub step_node : (cells : List Node) (n : Node) (i left q : ℕ) (b : Bool) (o : Option ℕ) (out : Bool) (d : ℕ) → n ≡ cell_at cells i → o ≡ half_place n b → left ≢ 0 → b ≡ nat_eq (bit_at q (left - 1)) 1 →
     ((e : ℕ) → left - 1 < e → out ≡ has_node (bits_of (left - 1) q) (from_half (walks_at e cells) o).nodes) → left < d → out ≡ has_node (bits_of left q) (walks_at d cells i).nodes
 step_node cells n i left q b o out zero at half z k below l = absurd (omega arith)
 step_node cells n i left q b o out (suc d) at half z k below l = below d (omega arith) ∙ half_has cells n i left q b o d at half z k
 
 -- what holds where the half's path is a node holds where the node's is
-pub held_half : (X : Type 0) (cells : List Node) (n : Node) (i left q : ℕ) (b : Bool) (o : Option ℕ) (d : ℕ) → n ≡ node_at cells i → o ≡ half_place n b → left ≢ 0 → b ≡ nat_eq (bit_at q (left - 1)) 1 →
+pub held_half : (X : Type 0) (cells : List Node) (n : Node) (i left q : ℕ) (b : Bool) (o : Option ℕ) (d : ℕ) → n ≡ cell_at cells i → o ≡ half_place n b → left ≢ 0 → b ≡ nat_eq (bit_at q (left - 1)) 1 →
     ((e : ℕ) → left - 1 < e → has_node (bits_of (left - 1) q) (from_half (walks_at e cells) o).nodes ≡ true → X) → left < d → has_node (bits_of left q) (walks_at d cells i).nodes ≡ true → X
 held_half X cells n i left q b o zero at half z k below l h = absurd (omega arith)
 held_half X cells n i left q b o (suc d) at half z k below l h = below d (omega (arith, l, z)) (half_has cells n i left q b o d at half z k ∙ h)
@@ -58,28 +58,28 @@ pub ne_is : (a b : ℕ) → a ≢ b → nat_eq a b ≡ false
 ne_is a b n = (elim (nat_eq a b) as (λ t. nat_eq a b ≡ t → t ≡ false) [ true ↦ λ h. absurd (n (eqb-true a b h)) | false ↦ λ h. refl ]) refl
 
 -- place k gets the name x, and all others keep theirs
-abbrev pub renamed : (ℕ → Place) → ℕ → Place → ℕ → Place
+abbrev pub renamed : (ℕ → Owner) → ℕ → Owner → ℕ → Owner
 renamed name k x j = cond (nat_eq j k) x (name j)
 
-pub re_here : (name : ℕ → Place) (k : ℕ) (x : Place) → renamed name k x k ≡ x
+pub re_here : (name : ℕ → Owner) (k : ℕ) (x : Owner) → renamed name k x k ≡ x
 re_here name k x = ap (λ t. cond t x (name k)) (eq_is k k refl)
 
-pub re_other : (name : ℕ → Place) (k : ℕ) (x : Place) (j : ℕ) → j ≢ k → renamed name k x j ≡ name j
+pub re_other : (name : ℕ → Owner) (k : ℕ) (x : Owner) (j : ℕ) → j ≢ k → renamed name k x j ≡ name j
 re_other name k x j a = ap (λ t. cond t x (name j)) (ne_is j k a)
 
 -- what has two names is two places
-pub apart : (name : ℕ → Place) (i j : ℕ) (x y : Place) → name i ≡ x → name j ≡ y → (x ≡ y → ⊥) → i ≢ j
+pub apart : (name : ℕ → Owner) (i j : ℕ) (x y : Owner) → name i ≡ x → name j ≡ y → (x ≡ y → ⊥) → i ≢ j
 apart name i j x y a b n e = n (sym a ∙ ap name e ∙ b)
 
-pub spare_kept : (k : ℕ) (old new : List Node) (name name' : ℕ → Place) (f : ℕ) → length old ≤ length new →
-    ((j m : ℕ) → m < k → name j ≡ Spare m → (node_at new j ≡ node_at old j) × (name' j ≡ Spare m)) → SpareFrom k old name f → SpareFrom k new name' f
+pub spare_kept : (k : ℕ) (old new : List Node) (name name' : ℕ → Owner) (f : ℕ) → length old ≤ length new →
+    ((j m : ℕ) → m < k → name j ≡ Spare m → (cell_at new j ≡ cell_at old j) × (name' j ≡ Spare m)) → SpareFrom k old name f → SpareFrom k new name' f
 unfolding SpareFrom
 spare_kept zero old new name name' f l c s = s
 spare_kept (suc k) old new name name' f l c s = (
   s.0,
   (c f k (omega arith) s.1).1,
   omega (arith, l, s.2),
-  subst (λ (x : Node). SpareFrom k new name' x.low) (sym (c f k (omega arith) s.1).0) (spare_kept k old new name name' (node_at old f).low l (λ j m h e. c j m (omega arith) e) s.3),
+  subst (λ (x : Node). SpareFrom k new name' x.low) (sym (c f k (omega arith) s.1).0) (spare_kept k old new name name' (cell_at old f).low l (λ j m h e. c j m (omega arith) e) s.3),
 )
 
 spare_at : (m k : ℕ) → Spare m ≡ Spare k → m ≡ k
@@ -95,17 +95,17 @@ nowhere_spare : (m : ℕ) → Nowhere ≡ Spare m → ⊥
 nowhere_spare m e = cc
 
 -- a place that is someone's lies in the array
-inside : (cells : List Node) (free n : ℕ) (name : ℕ → Place) (j : ℕ) → IsHeld cells free name n → (name j ≡ Nowhere → ⊥) → j < length cells
+inside : (cells : List Node) (free n : ℕ) (name : ℕ → Owner) (j : ℕ) → HasSpares cells free name n → (name j ≡ Nowhere → ⊥) → j < length cells
 inside cells free n name j h e = elim (cases_lt j (length cells)) [ inl l ↦ l | inr g ↦ absurd (e (h.past j (omega arith))) ]
 
 -- the first spare place
-pub spare_place : (old : List Node) (free next : ℕ) (name : ℕ → Place) (n : ℕ) (r : List Bool) → free ≢ 0 → next ≡ (node_at old free).low → IsHeld old free name n → GivesPlace r old old next name free
+pub spare_place : (old : List Node) (free next : ℕ) (name : ℕ → Owner) (n : ℕ) (r : List Bool) → free ≢ 0 → next ≡ (cell_at old free).low → HasSpares old free name n → GivesPlace r old old next name free
 unfolding SpareFrom
 spare_place old free next name zero r z x h = absurd (z h.spare)
 spare_place old free next name (suc m) r z x h =
     let s = h.spare in
     let name2 = renamed name free (At r) in
-    let other : (j : ℕ) (x : Place) → name j ≡ x → (x ≡ Spare m → ⊥) → name2 j ≡ name j =
+    let other : (j : ℕ) (x : Owner) → name j ≡ x → (x ≡ Spare m → ⊥) → name2 j ≡ name j =
     λ j x e k. re_other name free (At r) j (apart name j free x (Spare m) e s.1 k) in
     record {
       name' = name2;
@@ -116,18 +116,18 @@ spare_place old free next name (suc m) r z x h =
       inside = s.2;
       held = record {
         past = λ j l. other j Nowhere (h.past j l) (nowhere_spare m) ∙ h.past j l;
-        spare = subst (λ (y : ℕ). SpareFrom m old name2 y) (sym x) (spare_kept m old old name name2 (node_at old free).low (omega arith) (λ j k l e. (refl, other j (Spare k) e (λ v. absurd (omega (arith, spare_at k m v))) ∙ e)) s.3);
+        spare = subst (λ (y : ℕ). SpareFrom m old name2 y) (sym x) (spare_kept m old old name name2 (cell_at old free).low (omega arith) (λ j k l e. (refl, other j (Spare k) e (λ v. absurd (omega (arith, spare_at k m v))) ∙ e)) s.3);
       };
       long = omega arith;
       same = λ j q e. (refl, other j (At q) e (λ x. spare_not m q (sym x)) ∙ e);
     }
 
 -- a new place at the end
-pub new_place : (old new : List Node) (free k : ℕ) (a : List Node) (name : ℕ → Place) (n : ℕ) (r : List Bool) → k ≢ 0 → k ≡ length old → new ≡ old ++ a → length a ≡ 1 → IsHeld old free name n → GivesPlace r old new free name k
+pub new_place : (old new : List Node) (free k : ℕ) (a : List Node) (name : ℕ → Owner) (n : ℕ) (r : List Bool) → k ≢ 0 → k ≡ length old → new ≡ old ++ a → length a ≡ 1 → HasSpares old free name n → GivesPlace r old new free name k
 new_place old new free k a name n r z at e la h =
     let long : length new ≡ length old + 1 = omega (arith, ap length e, length-append old a) in
     let name2 = renamed name k (At r) in
-    let same : (j : ℕ) → j < length old → node_at new j ≡ node_at old j = λ j l. ap (λ x. get_or x j blank) e ∙ get_or_append_left old a blank j l in
+    let same : (j : ℕ) → j < length old → cell_at new j ≡ cell_at old j = λ j l. ap (λ x. get_or x j blank_cell) e ∙ get_or_append_left old a blank_cell j l in
     let other : (j : ℕ) → j < length old → name2 j ≡ name j = λ j l. re_other name k (At r) j (λ x. absurd (omega arith)) in
     record {
       name' = name2;
@@ -164,7 +164,7 @@ no true h = absurd (h refl)
 no false h = refl
 
 -- a node with no labels and no halves is in order
-pub leaf_tree : (d : ℕ) (cells : List Node) (name : ℕ → Place) (j : ℕ) (p : List Bool) → name j ≡ At p → j < length cells → node_at cells j ≡ blank →
+pub leaf_tree : (d : ℕ) (cells : List Node) (name : ℕ → Owner) (j : ℕ) (p : List Bool) → name j ≡ At p → j < length cells → cell_at cells j ≡ blank_cell →
     (walks_at (suc d) cells j ≡ walks_of None None no_walks no_walks) × IsTree (suc d) cells name j p
 unfolding walks_at IsTree
 leaf_tree d cells name j p e l b = (
@@ -174,7 +174,7 @@ leaf_tree d cells name j p e l b = (
     l,
     subst (λ (n : Node). IsNode (walks_at d cells) (λ b j. IsTree d cells name j (p ++ (b ∷ []))) n) (sym b) (record {
       covers = record { routes = bare_cover bare_cover_is refl refl; entries = bare_cover bare_cover_is refl refl };
-      halves = λ b. elim b as (λ b. IfHalf (λ j. IsTree d cells name j (p ++ (b ∷ []))) (half_place blank b)) [ true ↦ tt | false ↦ tt ];
+      halves = λ b. elim b as (λ b. IfHalf (λ j. IsTree d cells name j (p ++ (b ∷ []))) (half_place blank_cell b)) [ true ↦ tt | false ↦ tt ];
     }),
   ),
 )
@@ -254,16 +254,16 @@ with_other n j true false ne = refl
 with_other n j false true ne = refl
 with_other n j false false ne = absurd (ne refl)
 
-module _ (e i j free : ℕ) (old mid : List Node) (n : Node) (name : ℕ → Place) (p : List Bool) (b : Bool) (at : n ≡ node_at old i) (gone : half_place n b ≡ None) (g : GivesPlace (p ++ (b ∷ [])) old mid free name j) where
+module _ (e i j free : ℕ) (old mid : List Node) (n : Node) (name : ℕ → Owner) (p : List Bool) (b : Bool) (at : n ≡ cell_at old i) (gone : half_place n b ≡ None) (g : GivesPlace (p ++ (b ∷ [])) old mid free name j) where
   -- the array with the new node, before its parent tells of it
   abbrev mid2 : List Node
-  mid2 = slice_set mid j blank
+  mid2 = slice_set mid j blank_cell
 
   long2 : length mid2 ≡ length mid
-  long2 = length-set mid j blank
+  long2 = length-set mid j blank_cell
 
   child : (walks_at (suc e) mid2 j ≡ walks_of None None no_walks no_walks) × IsTree (suc e) mid2 g.name' j (p ++ (b ∷ []))
-  child = leaf_tree e mid2 g.name' j (p ++ (b ∷ [])) g.mine (omega (arith, long2, g.inside)) (get_or-set_same mid j blank blank g.inside)
+  child = leaf_tree e mid2 g.name' j (p ++ (b ∷ [])) g.mine (omega (arith, long2, g.inside)) (get_or-set_same mid j blank_cell blank_cell g.inside)
 
   other : (c : Bool) → b ≢ c → IfHalf (λ j. IsTree (suc e) old name j (p ++ (c ∷ []))) (half_place n c) →
       (from_half (walks_at (suc e) mid2) (half_place n c) ≡ from_half (walks_at (suc e) old) (half_place n c)) × IfHalf (λ j. IsTree (suc e) mid2 g.name' j (p ++ (c ∷ []))) (half_place n c)
@@ -271,14 +271,14 @@ module _ (e i j free : ℕ) (old mid : List Node) (n : Node) (name : ℕ → Pla
       let car : Carries (p ++ (c ∷ [])) old mid2 name g.name' = record {
         long = omega (arith, long2, g.long);
         same = λ x q f h. (
-          get_or-set_other mid j x blank blank (apart g.name' x j (At q) (At (p ++ (b ∷ []))) (g.same x q f).1 g.mine
+          get_or-set_other mid j x blank_cell blank_cell (apart g.name' x j (At q) (At (p ++ (b ∷ []))) (g.same x q f).1 g.mine
               (λ y. both_not p (p ++ (b ∷ [])) b c ne (begins_self (p ++ (b ∷ []))) (ap (begins (p ++ (c ∷ []))) (sym (at_same q (p ++ (b ∷ [])) y)) ∙ h))) ∙ (g.same x q f).0,
           (g.same x q f).1,
         );
       } in
       half_carried (suc e) old mid2 name g.name' (p ++ (c ∷ [])) (half_place n c) (λ x s. carry (suc e) old mid2 name g.name' x (p ++ (c ∷ [])) car s) t
 
-  spares_kept : (new : List Node) → length new ≡ length mid → ((x : ℕ) (m : ℕ) → g.name' x ≡ Spare m → node_at new x ≡ node_at mid x) → IsHeld new free g.name' g.spares
+  spares_kept : (new : List Node) → length new ≡ length mid → ((x : ℕ) (m : ℕ) → g.name' x ≡ Spare m → cell_at new x ≡ cell_at mid x) → HasSpares new free g.name' g.spares
   spares_kept new l s = record {
     past = λ x h. g.held.past x (omega (arith, l, h));
     spare = spare_kept g.spares mid new g.name' g.name' free (omega (arith, l)) (λ x m k y. (s x m y, y)) g.held.spare;
@@ -322,8 +322,8 @@ module _ (e i j free : ℕ) (old mid : List Node) (n : Node) (name : ℕ → Pla
             )
       ]) refl in
       let x = placed (suc e) mid2 i m g.name' p here.1 within made.1 in
-      let same : (x : ℕ) (y : Place) → g.name' x ≡ y → (y ≡ At p → ⊥) → (y ≡ At (p ++ (b ∷ [])) → ⊥) → node_at new x ≡ node_at mid x =
-      λ x y f u v. get_or-set_other mid2 i x m blank (apart g.name' x i y (At p) f here.1 u) ∙ get_or-set_other mid j x blank blank (apart g.name' x j y (At (p ++ (b ∷ []))) f g.mine v) in
+      let same : (x : ℕ) (y : Owner) → g.name' x ≡ y → (y ≡ At p → ⊥) → (y ≡ At (p ++ (b ∷ [])) → ⊥) → cell_at new x ≡ cell_at mid x =
+      λ x y f u v. get_or-set_other mid2 i x m blank_cell (apart g.name' x i y (At p) f here.1 u) ∙ get_or-set_other mid j x blank_cell blank_cell (apart g.name' x j y (At (p ++ (b ∷ []))) f g.mine v) in
       record {
         name' = g.name';
         spares = g.spares;
@@ -340,11 +340,11 @@ module _ (e i j free : ℕ) (old mid : List Node) (n : Node) (name : ℕ → Pla
           );
         };
         walks = λ r. roomier_trans _ _ _ _ (roomier_same _ _ _ (ap (walks_by Old) at)) (roomier_trans _ _ _ _ (made.0 r) (roomier_same _ _ _ x.0));
-        half = ap (λ y. half_place y b) (get_or-set_same mid2 i m blank within) ∙ half_with n j b g.some;
-        blank = get_or-set_other mid2 i j m blank (apart g.name' j i (At (p ++ (b ∷ []))) (At p) g.mine here.1 (λ u. let z : true ≡ false = sym (begins_self (p ++ (b ∷ []))) ∙ ap (begins (p ++ (b ∷ []))) (at_same (p ++ (b ∷ [])) p u) ∙ begins_self_not p b in cc))
-            ∙ get_or-set_same mid j blank blank g.inside;
+        half = ap (λ y. half_place y b) (get_or-set_same mid2 i m blank_cell within) ∙ half_with n j b g.some;
+        blank = get_or-set_other mid2 i j m blank_cell (apart g.name' j i (At (p ++ (b ∷ []))) (At p) g.mine here.1 (λ u. let z : true ≡ false = sym (begins_self (p ++ (b ∷ []))) ∙ ap (begins (p ++ (b ∷ []))) (at_same (p ++ (b ∷ [])) p u) ∙ begins_self_not p b in cc))
+            ∙ get_or-set_same mid j blank_cell blank_cell g.inside;
         fresh = g.fresh;
-        other = λ c ne. ap (λ y. half_place y c) (get_or-set_same mid2 i m blank within) ∙ (with_other n j b c ne ∙ ap (λ y. half_place y c) at);
+        other = λ c ne. ap (λ y. half_place y c) (get_or-set_same mid2 i m blank_cell within) ∙ (with_other n j b c ne ∙ ap (λ y. half_place y c) at);
         rest = λ x r c ne f h.
             same x (At r) (g.same x r f).1
             (λ u. let z : true ≡ false = sym h ∙ ap (begins (p ++ (c ∷ []))) (at_same r p u) ∙ begins_self_not p c in cc)
@@ -352,12 +352,12 @@ module _ (e i j free : ℕ) (old mid : List Node) (n : Node) (name : ℕ → Pla
             ∙ (g.same x r f).0;
       }
 
-pub tree_name : (d : ℕ) (cells : List Node) (name : ℕ → Place) (i : ℕ) (p : List Bool) → IsTree d cells name i p → name i ≡ At p
+pub tree_name : (d : ℕ) (cells : List Node) (name : ℕ → Owner) (i : ℕ) (p : List Bool) → IsTree d cells name i p → name i ≡ At p
 unfolding IsTree
 tree_name zero cells name i p t = absurd t
 tree_name (suc d) cells name i p t = t.0
 
-pub room_end : (old : List Node) (free i left q d : ℕ) (name : ℕ → Place) (n : ℕ) (p : List Bool) → left ≡ 0 → left < d → IsTree d old name i p → IsHeld old free name n → HasRoom d (bits_of left q) old old free name i p
+pub room_end : (old : List Node) (free i left q d : ℕ) (name : ℕ → Owner) (n : ℕ) (p : List Bool) → left ≡ 0 → left < d → IsTree d old name i p → HasSpares old free name n → MakesRoom d (bits_of left q) old old free name i p
 room_end old free i left q d name n p z l t h = record {
   name' = name;
   spares = n;
@@ -369,11 +369,11 @@ room_end old free i left q d name n p z l t h = record {
 }
 
 -- room below a half is room below the node
-pub room_below : (old new : List Node) (free i j left q d : ℕ) (name : ℕ → Place) (p : List Bool) (b : Bool) → left ≢ 0 → b ≡ nat_eq (bit_at q (left - 1)) 1 → half_place (node_at old i) b ≡ Some j →
-    IsTree (suc d) old name i p → HasRoom d (bits_of (left - 1) q) old new free name j (p ++ (b ∷ [])) → HasRoom (suc d) (bits_of left q) old new free name i p
+pub room_below : (old new : List Node) (free i j left q d : ℕ) (name : ℕ → Owner) (p : List Bool) (b : Bool) → left ≢ 0 → b ≡ nat_eq (bit_at q (left - 1)) 1 → half_place (cell_at old i) b ≡ Some j →
+    IsTree (suc d) old name i p → MakesRoom d (bits_of (left - 1) q) old new free name j (p ++ (b ∷ [])) → MakesRoom (suc d) (bits_of left q) old new free name i p
 unfolding walks_at IsTree
 room_below old new free i j left q d name p b z y some t r =
-    let n = node_at old i in
+    let n = cell_at old i in
     let Old = walks_at d old in
     let W = walks_at d new in
     let here = r.keeps.same i p t.0 (begins_self_not p b) in
@@ -415,21 +415,21 @@ room_below old new free i j left q d name p b z y some t r =
       tree = (here.1, omega (arith, t.1, r.keeps.long), subst (λ (x : Node). IsNode W S x) (sym here.0) made.2);
       held = r.held;
       keeps = record { long = r.keeps.long; same = λ x v f h. r.keeps.same x v f (no (begins (p ++ (b ∷ [])) v) (λ u. no_begin p v b u h)) };
-      walks = subst (λ v. IsRoomier v (walks_by Old n) (walks_by W (node_at new i))) (sym (first_bit left q b z y)) (roomier_trans _ _ _ _ made.0 (roomier_same _ _ _ (ap (walks_by W) here.0)));
+      walks = subst (λ v. IsRoomier v (walks_by Old n) (walks_by W (cell_at new i))) (sym (first_bit left q b z y)) (roomier_trans _ _ _ _ made.0 (roomier_same _ _ _ (ap (walks_by W) here.0)));
       there = ap (λ (x : Node). has_node (bits_of left q) (walks_by W x).nodes) here.0 ∙ made.1;
     }
 
-pub some_room : (old new : List Node) (n : Node) (o : Option ℕ) (free i j left q d : ℕ) (name : ℕ → Place) (p : List Bool) (b : Bool) → left ≢ 0 → b ≡ nat_eq (bit_at q (left - 1)) 1 → n ≡ node_at old i → o ≡ half_place n b → o ≡ Some j → left < d →
-    IsTree d old name i p → ((e : ℕ) (v : List Bool) → left - 1 < e → IsTree e old name j v → HasRoom e (bits_of (left - 1) q) old new free name j v) → HasRoom d (bits_of left q) old new free name i p
+pub some_room : (old new : List Node) (n : Node) (o : Option ℕ) (free i j left q d : ℕ) (name : ℕ → Owner) (p : List Bool) (b : Bool) → left ≢ 0 → b ≡ nat_eq (bit_at q (left - 1)) 1 → n ≡ cell_at old i → o ≡ half_place n b → o ≡ Some j → left < d →
+    IsTree d old name i p → ((e : ℕ) (v : List Bool) → left - 1 < e → IsTree e old name j v → MakesRoom e (bits_of (left - 1) q) old new free name j v) → MakesRoom d (bits_of left q) old new free name i p
 unfolding IsTree
 some_room old new n o free i j left q zero name p b z y at h some l t f = absurd t
 some_room old new n o free i j left q (suc d) name p b z y at h some l t f =
-    let is : half_place (node_at old i) b ≡ Some j = ap (λ x. half_place x b) (sym at) ∙ sym h ∙ some in
+    let is : half_place (cell_at old i) b ≡ Some j = ap (λ x. half_place x b) (sym at) ∙ sym h ∙ some in
     room_below old new free i j left q d name p b z y is t (f d (p ++ (b ∷ [])) (omega arith) (subst (λ (v : Option ℕ). IfHalf (λ x. IsTree d old name x (p ++ (b ∷ []))) v) is (t.2.halves b)))
 
 -- room after a half became a node is room
-pub split_room : (old mid new : List Node) (free1 free i j left q d : ℕ) (name : ℕ → Place) (p : List Bool) (b : Bool) → left ≢ 0 → b ≡ nat_eq (bit_at q (left - 1)) 1 →
-    (s : IsSplit d b old mid free1 name i p j) → HasRoom d (bits_of left q) mid new free s.name' i p → HasRoom d (bits_of left q) old new free name i p
+pub split_room : (old mid new : List Node) (free1 free i j left q d : ℕ) (name : ℕ → Owner) (p : List Bool) (b : Bool) → left ≢ 0 → b ≡ nat_eq (bit_at q (left - 1)) 1 →
+    (s : IsSplit d b old mid free1 name i p j) → MakesRoom d (bits_of left q) mid new free s.name' i p → MakesRoom d (bits_of left q) old new free name i p
 split_room old mid new free1 free i j left q d name p b z y s r = record {
   name' = r.name';
   spares = r.spares;
@@ -440,22 +440,22 @@ split_room old mid new free1 free i j left q d name p b z y s r = record {
   there = r.there;
 }
 
-pub none_room : (old mid new : List Node) (free1 free i j left q d : ℕ) (name : ℕ → Place) (p : List Bool) (b : Bool) → left ≢ 0 → b ≡ nat_eq (bit_at q (left - 1)) 1 → left < d →
+pub none_room : (old mid new : List Node) (free1 free i j left q d : ℕ) (name : ℕ → Owner) (p : List Bool) (b : Bool) → left ≢ 0 → b ≡ nat_eq (bit_at q (left - 1)) 1 → left < d →
     IsSplit d b old mid free1 name i p j →
-    ((e : ℕ) (name1 : ℕ → Place) (n : ℕ) (v : List Bool) → left - 1 < e → IsTree e mid name1 j v → IsHeld mid free1 name1 n → HasRoom e (bits_of (left - 1) q) mid new free name1 j v) → HasRoom d (bits_of left q) old new free name i p
+    ((e : ℕ) (name1 : ℕ → Owner) (n : ℕ) (v : List Bool) → left - 1 < e → IsTree e mid name1 j v → HasSpares mid free1 name1 n → MakesRoom e (bits_of (left - 1) q) mid new free name1 j v) → MakesRoom d (bits_of left q) old new free name i p
 none_room old mid new free1 free i j left q d name p b z y l s f =
     split_room old mid new free1 free i j left q d name p b z y s
-    (some_room mid new (node_at mid i) (half_place (node_at mid i) b) free i j left q d s.name' p b z y refl refl s.half l s.tree (λ e v m t. f e s.name' s.spares v m t s.held))
+    (some_room mid new (cell_at mid i) (half_place (cell_at mid i) b) free i j left q d s.name' p b z y refl refl s.half l s.tree (λ e v m t. f e s.name' s.spares v m t s.held))
 
-pub split_is : (old mid new : List Node) (n leaf m : Node) (i j free d : ℕ) (name : ℕ → Place) (p : List Bool) (b : Bool) → n ≡ node_at old i → half_place n b ≡ None → 1 < d → IsTree d old name i p → GivesPlace (p ++ (b ∷ [])) old mid free name j →
-    leaf ≡ blank → m ≡ with_half n j b → new ≡ slice_set (slice_set mid j leaf) i m → IsSplit d b old new free name i p j
+pub split_is : (old mid new : List Node) (n leaf m : Node) (i j free d : ℕ) (name : ℕ → Owner) (p : List Bool) (b : Bool) → n ≡ cell_at old i → half_place n b ≡ None → 1 < d → IsTree d old name i p → GivesPlace (p ++ (b ∷ [])) old mid free name j →
+    leaf ≡ blank_cell → m ≡ with_half n j b → new ≡ slice_set (slice_set mid j leaf) i m → IsSplit d b old new free name i p j
 split_is old mid new n leaf m i j free zero name p b at gone l t g x y z = absurd (omega arith)
 split_is old mid new n leaf m i j free (suc zero) name p b at gone l t g x y z = absurd (omega arith)
 split_is old mid new n leaf m i j free (suc (suc e)) name p b at gone l t g x y z =
-    let is : new ≡ slice_set (slice_set mid j blank) i (with_half n j b) = z ∙ ap (λ v. slice_set (slice_set mid j v) i m) x ∙ ap (λ v. slice_set (slice_set mid j blank) i v) y in
+    let is : new ≡ slice_set (slice_set mid j blank_cell) i (with_half n j b) = z ∙ ap (λ v. slice_set (slice_set mid j v) i m) x ∙ ap (λ v. slice_set (slice_set mid j blank_cell) i v) y in
     subst (λ (v : List Node). IsSplit (suc (suc e)) b old v free name i p j) (sym is) (split_done e i j free old mid n name p b at gone g t)
 
-pub room_there : (old : List Node) (free i left q d : ℕ) (name : ℕ → Place) (n : ℕ) (p : List Bool) → true ≡ has_node (bits_of left q) (walks_at d old i).nodes → IsTree d old name i p → IsHeld old free name n → HasRoom d (bits_of left q) old old free name i p
+pub room_there : (old : List Node) (free i left q d : ℕ) (name : ℕ → Owner) (n : ℕ) (p : List Bool) → true ≡ has_node (bits_of left q) (walks_at d old i).nodes → IsTree d old name i p → HasSpares old free name n → MakesRoom d (bits_of left q) old old free name i p
 room_there old free i left q d name n p z t h = record {
   name' = name;
   spares = n;

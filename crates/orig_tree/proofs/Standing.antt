@@ -8,10 +8,10 @@ use Rattle.table_model.proofs.Cut.{lpm_cut, lpm_nil}
 use Rattle.table_model.specs.Sets.{side, set_of, is_in, common, joint, or_else, one_if_empty, apart}
 use Rattle.table_model.proofs.Sets.{same_joint}
 use Rattle.table_model.proofs.Cost.{set_uniform, set_more, set_alike, k_uniform, k_more, k_alike}
-use Rattle.hop_sets.specs.Hops.{SameHops}
+use Rattle.fib_addr.specs.HopSets.{SameHops}
 use Rattle.orig_tree.specs.Edits.{put}
-use Rattle.orig_tree.specs.Arena.{Place, At, node_at, half_place, IfHalf, IsTree}
-use Rattle.orig_tree.specs.Bests.{Stands, best_one, AreBest}
+use Rattle.orig_tree.specs.Arena.{Owner, At, cell_at, half_place, IfHalf, IsTree}
+use Rattle.orig_tree.specs.Bests.{IsRegionBest, best_one, AreBest}
 use Rattle.orig_tree.specs.declared.node.Node.{Node}
 use Rattle.orig_tree.specs.declared.best.Best.{Best}
 use Rattle.orig_tree.proofs.Arena.{begins_self, begins_less}
@@ -19,10 +19,10 @@ use Rattle.orig_tree.proofs.Rooms.{eq_is}
 
 -- ---- one region
 
-pub stands_one : (d h : ℕ) (f : List Bool → ℕ) → ((a : List Bool) → length a ≡ d → f a ≡ h) → Stands d f (best_one h)
+pub stands_one : (d h : ℕ) (f : List Bool → ℕ) → ((a : List Bool) → length a ≡ d → f a ≡ h) → IsRegionBest d f (best_one h)
 stands_one d h f e = record { hops = λ k. ap (is_in k) (sym (set_uniform d f h e)); cost = sym (k_uniform d f h e) }
 
-pub stands_alike : (d : ℕ) (f g : List Bool → ℕ) (x : Best) → ((a : List Bool) → length a ≡ d → f a ≡ g a) → Stands d f x → Stands d g x
+pub stands_alike : (d : ℕ) (f g : List Bool → ℕ) (x : Best) → ((a : List Bool) → length a ≡ d → f a ≡ g a) → IsRegionBest d f x → IsRegionBest d g x
 stands_alike d f g x e s = record { hops = λ h. s.hops h ∙ ap (is_in h) (set_alike d f g e); cost = s.cost ∙ k_alike d f g e }
 
 -- what it costs to put two halves together
@@ -36,7 +36,7 @@ gap_is b S T t = by_common b (common S T) t
     by_common false (h ∷ C) t = refl
 
 pub stands_by : (low high x : Best) (d : ℕ) (f : List Bool → ℕ) → SameHops x.hops (joint low.hops high.hops) → x.k ≡ low.k + high.k + apart low.hops high.hops
-    → Stands d (side false f) low → Stands d (side true f) high → Stands (suc d) f x
+    → IsRegionBest d (side false f) low → IsRegionBest d (side true f) high → IsRegionBest (suc d) f x
 stands_by low high x d f j k s t =
     let same = same_joint low.hops high.hops (set_of d (side false f)) (set_of d (side true f)) s.hops t.hops in
     record {
@@ -45,7 +45,7 @@ stands_by low high x d f j k s t =
     }
 
 pub stands_joined : (low high x : Best) (b : Bool) → SameHops x.hops (joint low.hops high.hops) → IsTrue b ↔ (common low.hops high.hops ≡ []) → x.k ≡ low.k + high.k + cond b 1 0
-    → (d : ℕ) (f : List Bool → ℕ) → Stands d (side false f) low → Stands d (side true f) high → Stands (suc d) f x
+    → (d : ℕ) (f : List Bool → ℕ) → IsRegionBest d (side false f) low → IsRegionBest d (side true f) high → IsRegionBest (suc d) f x
 stands_joined low high x b j t k d f s u = stands_by low high x d f j (omega (arith, k, gap_is b low.hops high.hops t)) s u
 
 -- ---- one route alone
@@ -118,7 +118,7 @@ module _ (g h : ℕ) (ne : g ≢ h) where
   joins_high (suc zero) = from_common (best_one h) (lone_best 1 g h) (lone_best 2 g h) (h ∷ []) (ap (λ (b : Bool). cond (b || (nat_eq g h || false)) (h ∷ []) []) (same h)) (λ k. refl) refl
   joins_high (suc (suc n)) = from_common (best_one h) (lone_best 2 g h) (lone_best 2 g h) (h ∷ []) (ap (λ (b : Bool). cond (b || false) (h ∷ []) []) (same h)) (λ k. refl) refl
 
-  pub lone_stands : (q : List Bool) (d : ℕ) → length q ≤ d → Stands d (lone q g h) (lone_best (length q) g h)
+  pub lone_stands : (q : List Bool) (d : ℕ) → length q ≤ d → IsRegionBest d (lone q g h) (lone_best (length q) g h)
   lone_stands [] d l = stands_one d g (lone [] g h) (λ a e. lone_here g h a)
   lone_stands (c ∷ q) zero l = absurd (omega arith)
   lone_stands (true ∷ q) (suc d) l =
@@ -132,25 +132,25 @@ module _ (g h : ℕ) (ne : g ≢ h) where
       (stands_alike d (lone q g h) (side false (lone (false ∷ q) g h)) (lone_best (length q) g h) (λ a e. sym (lone_side false q g h a)) (lone_stands q d (omega arith)))
       (stands_one d h (side true (lone (false ∷ q) g h)) (λ a e. lone_other false q g h a))
 
-same_best : (d : ℕ) (f : List Bool → ℕ) (x y : Best) → SameHops x.hops y.hops → x.k ≡ y.k → Stands d f y → Stands d f x
+same_best : (d : ℕ) (f : List Bool → ℕ) (x y : Best) → SameHops x.hops y.hops → x.k ≡ y.k → IsRegionBest d f y → IsRegionBest d f x
 same_best d f x y s k t = record { hops = λ h. s h ∙ t.hops h; cost = k ∙ t.cost }
 
 -- as it is made
-pub beside_here : (g h left : ℕ) (d q : ℕ) → left ≡ 0 → left ≤ d → Stands d (λ a. lpm (put (bits_of left q) g []) a h) (best_one g)
+pub beside_here : (g h left : ℕ) (d q : ℕ) → left ≡ 0 → left ≤ d → IsRegionBest d (λ a. lpm (put (bits_of left q) g []) a h) (best_one g)
 beside_here g h left d q z l =
-    subst (λ (p : List Bool). Stands d (lone p g h) (best_one g)) (no_path (bits_of left q) (length-bits_of left q ∙ z)) (stands_one d g (lone [] g h) (λ a e. lone_here g h a))
+    subst (λ (p : List Bool). IsRegionBest d (lone p g h) (best_one g)) (no_path (bits_of left q) (length-bits_of left q ∙ z)) (stands_one d g (lone [] g h) (λ a e. lone_here g h a))
   where
     no_path : (p : List Bool) → length p ≡ 0 → [] ≡ p
     no_path [] e = refl
     no_path (b ∷ p) e = absurd (omega arith)
 
 pub beside_below : (x : Best) (g h left : ℕ) → g ≢ h → left ≢ 0 → x.k ≡ 1 → (left ≡ 1 → SameHops x.hops (h ∷ g ∷ [])) → (left ≢ 1 → x.hops ≡ h ∷ [])
-    → (d q : ℕ) → left ≤ d → Stands d (λ a. lpm (put (bits_of left q) g []) a h) x
+    → (d q : ℕ) → left ≤ d → IsRegionBest d (λ a. lpm (put (bits_of left q) g []) a h) x
 beside_below x g h left ne z k two one d q l =
     let n = length-bits_of left q in
     by_length (length (bits_of left q)) (omega (arith, n)) (λ e. two (sym n ∙ e)) (λ e. one (λ u. e (n ∙ u))) (lone_stands g h ne (bits_of left q) d (omega (arith, n)))
   where
-    by_length : (m : ℕ) → m ≢ 0 → (m ≡ 1 → SameHops x.hops (h ∷ g ∷ [])) → (m ≢ 1 → x.hops ≡ h ∷ []) → Stands d (λ a. lpm (put (bits_of left q) g []) a h) (lone_best m g h) → Stands d (λ a. lpm (put (bits_of left q) g []) a h) x
+    by_length : (m : ℕ) → m ≢ 0 → (m ≡ 1 → SameHops x.hops (h ∷ g ∷ [])) → (m ≢ 1 → x.hops ≡ h ∷ []) → IsRegionBest d (λ a. lpm (put (bits_of left q) g []) a h) (lone_best m g h) → IsRegionBest d (λ a. lpm (put (bits_of left q) g []) a h) x
     by_length zero u two one s = absurd (u refl)
     by_length (suc zero) u two one s = same_best d (lone (bits_of left q) g h) x (lone_best 1 g h) (two refl) k s
     by_length (suc (suc m)) u two one s = same_best d (lone (bits_of left q) g h) x (lone_best 2 g h) (λ t. ap (is_in t) (one (λ e. omega (arith, e)))) k s
@@ -170,30 +170,30 @@ unfolding AreBest
 best_alike zero cells kept f g i e k = tt
 best_alike (suc d) cells kept f g i e k = (
   stands_alike d f g (kept i) (λ a l. e a (ap suc l)) k.0,
-  λ b. if_half (λ j. AreBest d cells kept (side b f) j) (λ j. AreBest d cells kept (side b g) j) (half_place (node_at cells i) b)
+  λ b. if_half (λ j. AreBest d cells kept (side b f) j) (λ j. AreBest d cells kept (side b g) j) (half_place (cell_at cells i) b)
       (λ j. best_alike d cells kept (side b f) (side b g) j (λ a l. e (b ∷ a) (ap suc l))) (k.1 b),
 )
 
 -- the same halves
-pub best_stay : (d : ℕ) (old new : List Node) (kept : ℕ → Best) (f : List Bool → ℕ) (i : ℕ) → ((j : ℕ) (b : Bool) → half_place (node_at new j) b ≡ half_place (node_at old j) b) → AreBest d old kept f i → AreBest d new kept f i
+pub best_stay : (d : ℕ) (old new : List Node) (kept : ℕ → Best) (f : List Bool → ℕ) (i : ℕ) → ((j : ℕ) (b : Bool) → half_place (cell_at new j) b ≡ half_place (cell_at old j) b) → AreBest d old kept f i → AreBest d new kept f i
 unfolding AreBest
 best_stay zero old new kept f i h k = tt
 best_stay (suc d) old new kept f i h k = (
   k.0,
   λ b. subst (λ (o : Option ℕ). IfHalf (λ j. AreBest d new kept (side b f) j) o) (sym (h i b))
-      (if_half (λ j. AreBest d old kept (side b f) j) (λ j. AreBest d new kept (side b f) j) (half_place (node_at old i) b) (λ j. best_stay d old new kept (side b f) j h) (k.1 b)),
+      (if_half (λ j. AreBest d old kept (side b f) j) (λ j. AreBest d new kept (side b f) j) (half_place (cell_at old i) b) (λ j. best_stay d old new kept (side b f) j h) (k.1 b)),
 )
 
 -- the nodes and what they keep are the same at path p and below it
-pub best_carry : (d : ℕ) (old new : List Node) (kept kept' : ℕ → Best) (name : ℕ → Place) (f : List Bool → ℕ) (i : ℕ) (p : List Bool) → IsTree d old name i p →
-    ((j : ℕ) (q : List Bool) → name j ≡ At q → begins p q ≡ true → (node_at new j ≡ node_at old j) × (kept' j ≡ kept j)) → AreBest d old kept f i → AreBest d new kept' f i
+pub best_carry : (d : ℕ) (old new : List Node) (kept kept' : ℕ → Best) (name : ℕ → Owner) (f : List Bool → ℕ) (i : ℕ) (p : List Bool) → IsTree d old name i p →
+    ((j : ℕ) (q : List Bool) → name j ≡ At q → begins p q ≡ true → (cell_at new j ≡ cell_at old j) × (kept' j ≡ kept j)) → AreBest d old kept f i → AreBest d new kept' f i
 unfolding AreBest IsTree
 best_carry zero old new kept kept' name f i p t c k = tt
 best_carry (suc d) old new kept kept' name f i p t c k =
     let e = c i p t.0 (begins_self p) in (
-      subst (λ (x : Best). Stands d f x) (sym e.1) k.0,
+      subst (λ (x : Best). IsRegionBest d f x) (sym e.1) k.0,
       λ b. subst (λ (n : Node). IfHalf (λ j. AreBest d new kept' (side b f) j) (half_place n b)) (sym e.0)
-          (both_half (λ j. IsTree d old name j (p ++ (b ∷ []))) (λ j. AreBest d old kept (side b f) j) (λ j. AreBest d new kept' (side b f) j) (half_place (node_at old i) b)
+          (both_half (λ j. IsTree d old name j (p ++ (b ∷ []))) (λ j. AreBest d old kept (side b f) j) (λ j. AreBest d new kept' (side b f) j) (half_place (cell_at old i) b)
           (λ j u v. best_carry d old new kept kept' name (side b f) j (p ++ (b ∷ [])) u (λ x q n h. c x q n (begins_less p q b h)) v) (t.2.halves b) (k.1 b)),
     )
 
@@ -202,6 +202,6 @@ pub best_same : (d : ℕ) (cells : List Node) (kept kept' : ℕ → Best) (f : L
 unfolding AreBest
 best_same zero cells kept kept' f i e k = tt
 best_same (suc d) cells kept kept' f i e k = (
-  subst (λ (x : Best). Stands d f x) (sym (e i)) k.0,
-  λ b. if_half (λ j. AreBest d cells kept (side b f) j) (λ j. AreBest d cells kept' (side b f) j) (half_place (node_at cells i) b) (λ j. best_same d cells kept kept' (side b f) j e) (k.1 b),
+  subst (λ (x : Best). IsRegionBest d f x) (sym (e i)) k.0,
+  λ b. if_half (λ j. AreBest d cells kept (side b f) j) (λ j. AreBest d cells kept' (side b f) j) (half_place (cell_at cells i) b) (λ j. best_same d cells kept kept' (side b f) j e) (k.1 b),
 )

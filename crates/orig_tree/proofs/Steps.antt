@@ -8,7 +8,7 @@ use Rattle.table_model.specs.Table.{Table, root, half, lpm, inherit}
 use Rattle.table_model.proofs.Cut.{lpm_nil, lpm_cut}
 use Rattle.table_model.specs.Regions.{join}
 use Rattle.table_model.proofs.Join.{root_join, low_join, high_join}
-use Rattle.orig_tree.specs.Walk.{Walks, no_walks, walks_of, rows_of, edited, Allowed, labelled, has_node}
+use Rattle.orig_tree.specs.Walk.{Walks, no_walks, walks_of, rows_of, edited, CanEdit, labelled, has_node}
 use Rattle.orig_tree.specs.declared.node.Label.{Label}
 use Rattle.orig_tree.specs.declared.node.Label.TheVariants.{Route, Entry}
 use Rattle.orig_tree.proofs.Paths.{no_bits, first_bit, first_one, first_zero}
@@ -143,19 +143,19 @@ assign_low label h route entry low high node after left q e b w a =
     ∙ sym (ap (λ n. edited label (bits_of left q) h n) (sym w) ∙ ap (λ p. edited label p h (walks_of route entry low high)) (first_zero left q e b) ∙ edited_low label (bits_of (left - 1) q) h route entry low high)
 
 pub allowed_high : (h route entry : Option ℕ) (low high node : Walks) (left q : ℕ) → left ≢ 0 → true ≡ nat_eq (bit_at q (left - 1)) 1 → walks_of route entry low high ≡ node →
-    Allowed (bits_of left q) h node.nodes → Allowed (bits_of (left - 1) q) h high.nodes
+    CanEdit (bits_of left q) h node.nodes → CanEdit (bits_of (left - 1) q) h high.nodes
 allowed_high None route entry low high node left q e b w a = tt
 allowed_high (Some h) route entry low high node left q e b w a =
     sym (has_high (bits_of (left - 1) q) route entry low high) ∙ ap (λ p. has_node p (walks_of route entry low high).nodes) (sym (first_one left q e b)) ∙ ap (λ n. has_node (bits_of left q) n.nodes) w ∙ a
 
 pub allowed_low : (h route entry : Option ℕ) (low high node : Walks) (left q : ℕ) → left ≢ 0 → false ≡ nat_eq (bit_at q (left - 1)) 1 → walks_of route entry low high ≡ node →
-    Allowed (bits_of left q) h node.nodes → Allowed (bits_of (left - 1) q) h low.nodes
+    CanEdit (bits_of left q) h node.nodes → CanEdit (bits_of (left - 1) q) h low.nodes
 allowed_low None route entry low high node left q e b w a = tt
 allowed_low (Some h) route entry low high node left q e b w a =
     sym (has_low (bits_of (left - 1) q) route entry low high) ∙ ap (λ p. has_node p (walks_of route entry low high).nodes) (sym (first_zero left q e b)) ∙ ap (λ n. has_node (bits_of left q) n.nodes) w ∙ a
 
 -- nothing is edited where nothing may be set
-pub edited_nothing : (label : Label) (h : Option ℕ) (p : List Bool) → Allowed p h [] → no_walks ≡ edited label p h no_walks
+pub edited_nothing : (label : Label) (h : Option ℕ) (p : List Bool) → CanEdit p h [] → no_walks ≡ edited label p h no_walks
 edited_nothing Route None p a = refl
 edited_nothing Entry None p a = refl
 edited_nothing label (Some h) p a = cc

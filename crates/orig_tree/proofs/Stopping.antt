@@ -8,10 +8,10 @@ use Rattle.table_model.specs.Table.{lpm, inherit}
 use Rattle.table_model.specs.Sets.{side, set_of, is_in, joint, apart}
 use Rattle.table_model.proofs.Sets.{same_joint}
 use Rattle.table_model.proofs.Cost.{set_more, k_more}
-use Rattle.hop_sets.specs.Hops.{SameHops}
+use Rattle.fib_addr.specs.HopSets.{SameHops}
 use Rattle.orig_tree.specs.Edits.{edit}
-use Rattle.orig_tree.specs.Arena.{Place, At, node_at, half_place, from_half, IfHalf, IsTree, walks_at, walks_by}
-use Rattle.orig_tree.specs.Bests.{Stands, best_one, best_behind, AreBest, put_at, changed, Untouched, IsMended, HalfMended}
+use Rattle.orig_tree.specs.Arena.{Owner, At, cell_at, half_place, from_half, IfHalf, IsTree, walks_at, walks_by}
+use Rattle.orig_tree.specs.Bests.{IsRegionBest, best_one, best_behind, AreBest, put_at, changed, Untouched, IsMended, HalfMended}
 use Rattle.orig_tree.specs.declared.node.Node.{Node}
 use Rattle.orig_tree.specs.declared.best.Best.{Best}
 use Rattle.orig_tree.specs.declared.best.Change.{Change}
@@ -23,22 +23,22 @@ use Rattle.orig_tree.proofs.Mending.{half_gets, changed_push, put_here, mended_s
 
 -- ---- what is put together of two halves is so whatever they get
 
-joint_by : (low high x : Best) (d : ℕ) (f : List Bool → ℕ) → Stands d (side false f) low → Stands d (side true f) high → Stands (suc d) f x → SameHops x.hops (joint low.hops high.hops) × (x.k ≡ low.k + high.k + apart low.hops high.hops)
+joint_by : (low high x : Best) (d : ℕ) (f : List Bool → ℕ) → IsRegionBest d (side false f) low → IsRegionBest d (side true f) high → IsRegionBest (suc d) f x → SameHops x.hops (joint low.hops high.hops) × (x.k ≡ low.k + high.k + apart low.hops high.hops)
 joint_by low high x d f s t u =
     let same = same_joint low.hops high.hops (set_of d (side false f)) (set_of d (side true f)) s.hops t.hops in
     (λ h. u.hops h ∙ (ap (is_in h) (set_more d f) ∙ sym (same.0 h)), omega (arith, u.cost, k_more d f, s.cost, t.cost, same.1))
 
-again : (b : Bool) (near far x : Best) (m : ℕ) (f : List Bool → ℕ) → Stands m (side b f) near → Stands m (side (not b) f) far → Stands (suc m) f x →
-    (d : ℕ) (g : List Bool → ℕ) → Stands d (side b g) near → Stands d (side (not b) g) far → Stands (suc d) g x
+again : (b : Bool) (near far x : Best) (m : ℕ) (f : List Bool → ℕ) → IsRegionBest m (side b f) near → IsRegionBest m (side (not b) f) far → IsRegionBest (suc m) f x →
+    (d : ℕ) (g : List Bool → ℕ) → IsRegionBest d (side b g) near → IsRegionBest d (side (not b) g) far → IsRegionBest (suc d) g x
 again false near far x m f s t u d g v w = let j = joint_by near far x m f s t u in stands_by near far x d g j.0 j.1 v w
 again true near far x m f s t u d g v w = let j = joint_by far near x m f t s u in stands_by far near x d g j.0 j.1 w v
 
-half_kept : (cells : List Node) (m hop : ℕ) (o : Option ℕ) (S : ℕ → Best) → IfHalf (λ j. AreBest (suc m) cells S (λ a. lpm (walks_at (suc m) cells j).routes a hop) j) o → Stands m (λ a. lpm (from_half (walks_at (suc m) cells) o).routes a hop) (best_behind S o (best_one hop))
+half_kept : (cells : List Node) (m hop : ℕ) (o : Option ℕ) (S : ℕ → Best) → IfHalf (λ j. AreBest (suc m) cells S (λ a. lpm (walks_at (suc m) cells j).routes a hop) j) o → IsRegionBest m (λ a. lpm (from_half (walks_at (suc m) cells) o).routes a hop) (best_behind S o (best_one hop))
 unfolding AreBest
 half_kept cells m hop None S k = stands_one m hop (λ a. hop) (λ a l. refl)
 half_kept cells m hop (Some j) S k = k.0
 
-root_kept : (d : ℕ) (cells : List Node) (S : ℕ → Best) (f : List Bool → ℕ) (i : ℕ) → AreBest (suc d) cells S f i → Stands d f (S i)
+root_kept : (d : ℕ) (cells : List Node) (S : ℕ → Best) (f : List Bool → ℕ) (i : ℕ) → AreBest (suc d) cells S f i → IsRegionBest d f (S i)
 unfolding AreBest
 root_kept d cells S f i k = k.0
 
@@ -51,11 +51,11 @@ same_put K i x e y = by_place (nat_eq y i) refl
 
 -- ---- a node on the way to a path whose route changes
 
-module _ (cells : List Node) (i : ℕ) (n : Node) (at : n ≡ node_at cells i) (m depth : ℕ) (dm : suc m ≡ depth) (b : Bool) (no fo : Option ℕ) (ne : no ≡ half_place n b) (fe : fo ≡ half_place n (not b))
+module _ (cells : List Node) (i : ℕ) (n : Node) (at : n ≡ cell_at cells i) (m depth : ℕ) (dm : suc m ≡ depth) (b : Bool) (no fo : Option ℕ) (ne : no ≡ half_place n b) (fe : fo ≡ half_place n (not b))
     (left q inherited hop : ℕ) (set : Option ℕ) (z : left ≢ 0) (bit : b ≡ nat_eq (bit_at q (left - 1)) 1) (hop_is : hop ≡ unwrap_or n.route.hop inherited) where
   abbrev Told : (ℕ → Best) → List Change → List Change → Best → Type 0
   Told S O L near =
-      (name : ℕ → Place) (p : List Bool) → IfHalf (λ j. IsTree (suc m) cells name j p) no → IfHalf (λ j. AreBest (suc m) cells S (λ a. lpm (walks_at (suc m) cells j).routes a hop) j) no → Untouched p name S (changed O S) →
+      (name : ℕ → Owner) (p : List Bool) → IfHalf (λ j. IsTree (suc m) cells name j p) no → IfHalf (λ j. AreBest (suc m) cells S (λ a. lpm (walks_at (suc m) cells j).routes a hop) j) no → Untouched p name S (changed O S) →
       HalfMended m cells name no p (λ a. lpm (edit (bits_of (left - 1) q) set (from_half (walks_at (suc m) cells) no).routes) a hop) (changed O S) (changed L S) near
 
   olds : (c : Bool) (o : Option ℕ) → o ≡ half_place n c → (S : ℕ → Best) → AreBest (suc (suc m)) cells S (λ a. lpm (walks_at (suc (suc m)) cells i).routes a inherited) i →
@@ -64,11 +64,11 @@ module _ (cells : List Node) (i : ℕ) (n : Node) (at : n ≡ node_at cells i) (
 
   -- what a half kept stands for it
   old_half : (c : Bool) (o : Option ℕ) → o ≡ half_place n c → (S : ℕ → Best) → AreBest (suc (suc m)) cells S (λ a. lpm (walks_at (suc (suc m)) cells i).routes a inherited) i →
-      Stands m (side c (λ a. lpm (walks_at (suc (suc m)) cells i).routes a inherited)) (best_behind S o (best_one hop))
+      IsRegionBest m (side c (λ a. lpm (walks_at (suc (suc m)) cells i).routes a inherited)) (best_behind S o (best_one hop))
   unfolding walks_at
   old_half c o e S k =
       let G = walks_at (suc m) cells in
-      let nd = node_at cells i in
+      let nd = cell_at cells i in
       let own : inherit nd.route.hop inherited ≡ hop = ap (λ (x : Node). inherit x.route.hop inherited) (sym at) ∙ (given_is n.route.hop inherited ∙ sym hop_is) in
       stands_alike m (λ a. lpm (from_half G o).routes a hop) (side c (λ a. lpm (walks_by G nd).routes a inherited)) (best_behind S o (best_one hop))
       (λ a l. sym (half_gets G nd c inherited a ∙ (ap (λ h. lpm (from_half G (half_place nd c)).routes a h) own ∙ ap (λ y. lpm (from_half G y).routes a hop) (sym (e ∙ ap (λ y. half_place y c) at)))))
@@ -76,8 +76,8 @@ module _ (cells : List Node) (i : ℕ) (n : Node) (at : n ≡ node_at cells i) (
 
   -- what the region comes to is what it kept
   pub plan_same : (S : ℕ → Best) (O L : List Change) (near far x : Best) → Told S O L near → far ≡ best_behind S fo (best_one hop) →
-      ((d : ℕ) (f : List Bool → ℕ) → Stands d (side b f) near → Stands d (side (not b) f) far → Stands (suc d) f x) → x ≡ S i →
-      (name : ℕ → Place) (p : List Bool) → IsTree (suc depth) cells name i p → AreBest (suc depth) cells S (λ a. lpm (walks_at (suc depth) cells i).routes a inherited) i → Untouched p name S (changed O S) →
+      ((d : ℕ) (f : List Bool → ℕ) → IsRegionBest d (side b f) near → IsRegionBest d (side (not b) f) far → IsRegionBest (suc d) f x) → x ≡ S i →
+      (name : ℕ → Owner) (p : List Bool) → IsTree (suc depth) cells name i p → AreBest (suc depth) cells S (λ a. lpm (walks_at (suc depth) cells i).routes a inherited) i → Untouched p name S (changed O S) →
       IsMended depth cells name i p (λ a. lpm (edit (bits_of left q) set (walks_at (suc depth) cells i).routes) a inherited) (changed O S) (changed L S) (S i)
   plan_same S O L near far x cn fr j xs name p t k u =
       let f : List Bool → ℕ = λ a. lpm (edit (bits_of left q) set (walks_at (suc depth) cells i).routes) a inherited in
@@ -97,11 +97,11 @@ module _ (cells : List Node) (i : ℕ) (n : Node) (at : n ≡ node_at cells i) (
 
   -- one half keeps what it kept: so does the region
   pub plan_stays : (S : ℕ → Best) (O L : List Change) (near : Best) → Told S O L near → near ≡ best_behind S no (best_one hop) →
-      (name : ℕ → Place) (p : List Bool) → IsTree (suc depth) cells name i p → AreBest (suc depth) cells S (λ a. lpm (walks_at (suc depth) cells i).routes a inherited) i → Untouched p name S (changed O S) →
+      (name : ℕ → Owner) (p : List Bool) → IsTree (suc depth) cells name i p → AreBest (suc depth) cells S (λ a. lpm (walks_at (suc depth) cells i).routes a inherited) i → Untouched p name S (changed O S) →
       IsMended depth cells name i p (λ a. lpm (edit (bits_of left q) set (walks_at (suc depth) cells i).routes) a inherited) (changed O S) (changed L S) (S i)
   plan_stays S O L near cn ns name p t k u =
       let f : List Bool → ℕ = λ a. lpm (walks_at (suc (suc m)) cells i).routes a inherited in
       let k' : AreBest (suc (suc m)) cells S f i = subst (λ (D : ℕ). AreBest (suc D) cells S (λ a. lpm (walks_at (suc D) cells i).routes a inherited) i) (sym dm) k in
       plan_same S O L near (best_behind S fo (best_one hop)) (S i) cn refl
-      (again b near (best_behind S fo (best_one hop)) (S i) m f (subst (λ (y : Best). Stands m (side b f) y) (sym ns) (old_half b no ne S k')) (old_half (not b) fo fe S k') (root_kept (suc m) cells S f i k'))
+      (again b near (best_behind S fo (best_one hop)) (S i) m f (subst (λ (y : Best). IsRegionBest m (side b f) y) (sym ns) (old_half b no ne S k')) (old_half (not b) fo fe S k') (root_kept (suc m) cells S f i k'))
       refl name p t k u

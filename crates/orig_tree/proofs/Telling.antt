@@ -17,7 +17,7 @@ use Rattle.fib_addr.specs.declared.prefix.Prefix as code
 use Rattle.fib_addr.proofs.Parts.{length_prefix}
 use Rattle.orig_tree.specs.Walk.{Walks, no_walks, walks_of, rows_of, labelled}
 use Rattle.orig_tree.specs.declared.node.Label.{Label}
-use Rattle.orig_tree.specs.Views.{Fits}
+use Rattle.orig_tree.specs.Views.{FitsWidth}
 use Rattle.orig_tree.proofs.Steps.{rows_level, rows_nothing}
 
 pub lift_append : (p : List Bool) (L M : Table) → lift p (L ++ M) ≡ lift p L ++ lift p M
@@ -57,46 +57,46 @@ half_longer p q b e =
     )
 
 -- the halves of a table that fits are a bit shorter
-fits_front : (n : ℕ) (L M : Table) → Fits n (L ++ M) → Fits n L
+fits_front : (n : ℕ) (L M : Table) → FitsWidth n (L ++ M) → FitsWidth n L
 fits_front n [] M f = tt
 fits_front n (e ∷ L) M f = (f.0, fits_front n L M f.1)
 
-fits_back : (n : ℕ) (L M : Table) → Fits n (L ++ M) → Fits n M
+fits_back : (n : ℕ) (L M : Table) → FitsWidth n (L ++ M) → FitsWidth n M
 fits_back n [] M f = f
 fits_back n (e ∷ L) M f = fits_back n L M f.1
 
-fits_down : (n : ℕ) (b : Bool) (L : Table) → Fits n (lift (b ∷ []) L) → Fits (n - 1) L
+fits_down : (n : ℕ) (b : Bool) (L : Table) → FitsWidth n (lift (b ∷ []) L) → FitsWidth (n - 1) L
 fits_down n b [] f = tt
 fits_down n b (e ∷ L) f = (omega (arith, f.0), fits_down n b L f.1)
 
-fits_lower : (n : ℕ) (o : Option ℕ) (L M : Table) → Fits n (join o L M) → Fits (n - 1) L
+fits_lower : (n : ℕ) (o : Option ℕ) (L M : Table) → FitsWidth n (join o L M) → FitsWidth (n - 1) L
 fits_lower n o L M f = fits_down n false L (fits_front n (lift (false ∷ []) L) (lift (true ∷ []) M) (fits_back n (here o) (lift (false ∷ []) L ++ lift (true ∷ []) M) f))
 
-fits_upper : (n : ℕ) (o : Option ℕ) (L M : Table) → Fits n (join o L M) → Fits (n - 1) M
+fits_upper : (n : ℕ) (o : Option ℕ) (L M : Table) → FitsWidth n (join o L M) → FitsWidth (n - 1) M
 fits_upper n o L M f = fits_down n true M (fits_back n (lift (false ∷ []) L) (lift (true ∷ []) M) (fits_back n (here o) (lift (false ∷ []) L ++ lift (true ∷ []) M) f))
 
-fits_node : (n : ℕ) (label : Label) (route entry : Option ℕ) (low high node : Walks) → walks_of route entry low high ≡ node → Fits n (rows_of label node) → Fits n (join (labelled label route entry) (rows_of label low) (rows_of label high))
-fits_node n label route entry low high node w f = subst (λ (L : Table). Fits n L) (ap (rows_of label) (sym w) ∙ rows_level label route entry low high) f
+fits_node : (n : ℕ) (label : Label) (route entry : Option ℕ) (low high node : Walks) → walks_of route entry low high ≡ node → FitsWidth n (rows_of label node) → FitsWidth n (join (labelled label route entry) (rows_of label low) (rows_of label high))
+fits_node n label route entry low high node w f = subst (λ (L : Table). FitsWidth n L) (ap (rows_of label) (sym w) ∙ rows_level label route entry low high) f
 
-pub fits_low : (n : ℕ) (label : Label) (route entry : Option ℕ) (low high node : Walks) → walks_of route entry low high ≡ node → Fits n (rows_of label node) → Fits (n - 1) (rows_of label low)
+pub fits_low : (n : ℕ) (label : Label) (route entry : Option ℕ) (low high node : Walks) → walks_of route entry low high ≡ node → FitsWidth n (rows_of label node) → FitsWidth (n - 1) (rows_of label low)
 fits_low n label route entry low high node w f = fits_lower n (labelled label route entry) (rows_of label low) (rows_of label high) (fits_node n label route entry low high node w f)
 
-pub fits_high : (n : ℕ) (label : Label) (route entry : Option ℕ) (low high node : Walks) → walks_of route entry low high ≡ node → Fits n (rows_of label node) → Fits (n - 1) (rows_of label high)
+pub fits_high : (n : ℕ) (label : Label) (route entry : Option ℕ) (low high node : Walks) → walks_of route entry low high ≡ node → FitsWidth n (rows_of label node) → FitsWidth (n - 1) (rows_of label high)
 fits_high n label route entry low high node w f = fits_upper n (labelled label route entry) (rows_of label low) (rows_of label high) (fits_node n label route entry low high node w f)
 
 -- at the full width a node has its own entry alone
-none_below : (n : ℕ) (b : Bool) (L : Table) → n ≡ 0 → Fits n (lift (b ∷ []) L) → L ≡ []
+none_below : (n : ℕ) (b : Bool) (L : Table) → n ≡ 0 → FitsWidth n (lift (b ∷ []) L) → L ≡ []
 none_below n b [] z f = refl
 none_below n b (e ∷ L) z f = absurd (omega (arith, f.0))
 
-own_alone : (n : ℕ) (o : Option ℕ) (L M : Table) → n ≡ 0 → Fits n (join o L M) → join o L M ≡ here o
+own_alone : (n : ℕ) (o : Option ℕ) (L M : Table) → n ≡ 0 → FitsWidth n (join o L M) → join o L M ≡ here o
 own_alone n o L M z f =
     let r = fits_back n (here o) (lift (false ∷ []) L ++ lift (true ∷ []) M) f in
     let a : L ≡ [] = none_below n false L z (fits_front n (lift (false ∷ []) L) (lift (true ∷ []) M) r) in
     let b : M ≡ [] = none_below n true M z (fits_back n (lift (false ∷ []) L) (lift (true ∷ []) M) r) in
     ap (λ x. join o x M) a ∙ (ap (λ x. join o [] x) b ∙ append-nil (here o))
 
-pub told_end : (p : code.Prefix) (label : Label) (route entry o : Option ℕ) (low high node : Walks) → walks_of route entry low high ≡ node → p.len ≡ width p.family → Fits (width p.family - p.len) (rows_of label node)
+pub told_end : (p : code.Prefix) (label : Label) (route entry o : Option ℕ) (low high node : Walks) → walks_of route entry low high ≡ node → p.len ≡ width p.family → FitsWidth (width p.family - p.len) (rows_of label node)
     → o ≡ labelled label route entry → map (λ h. (prefix_as p, h)) (option_to_list o) ≡ of_table p.family (lift (prefix_as p).bits (rows_of label node))
 told_end p label route entry o low high node w n f s =
     let z : width p.family - p.len ≡ 0 = omega arith in
@@ -136,17 +136,17 @@ pub lift_none : (L : Table) → lift [] L ≡ L
 lift_none [] = refl
 lift_none (e ∷ L) = ap (λ x. e ∷ x) (lift_none L)
 
-pub fits_in_place : (f : Family) (L : Table) → AllByRecursion IsPrefix (keys_of (of_table f L)) → Fits (width f) L
+pub fits_in_place : (f : Family) (L : Table) → AllByRecursion IsPrefix (keys_of (of_table f L)) → FitsWidth (width f) L
 fits_in_place f [] a = tt
 fits_in_place f (e ∷ L) a = (a.0, fits_in_place f L a.1)
 
 pub whole_len : (f : Family) (p : code.Prefix) → prefix_as p ≡ record { family = f; bits = [] } → p.len ≡ 0
 whole_len f p e = omega (arith, length_prefix (width p.family) p.len p.bits p.fits, ap (λ (x : Prefix). length x.bits) e)
 
-pub whole_fits : (f : Family) (p : code.Prefix) (L : Table) → prefix_as p ≡ record { family = f; bits = [] } → Fits (width f) L → Fits (width p.family - p.len) L
+pub whole_fits : (f : Family) (p : code.Prefix) (L : Table) → prefix_as p ≡ record { family = f; bits = [] } → FitsWidth (width f) L → FitsWidth (width p.family - p.len) L
 whole_fits f p L e a =
     let n : width f ≡ width p.family - p.len = omega (arith, whole_len f p e, ap (λ (x : Prefix). width x.family) e) in
-    subst (λ (k : ℕ). Fits k L) n a
+    subst (λ (k : ℕ). FitsWidth k L) n a
 
 pub told_whole : (f : Family) (p : code.Prefix) (L : Table) → prefix_as p ≡ record { family = f; bits = [] } → of_table p.family (lift (prefix_as p).bits L) ≡ of_table f L
 told_whole f p L e = ap (λ (x : Prefix). of_table x.family (lift x.bits L)) e ∙ ap (of_table f) (lift_none L)

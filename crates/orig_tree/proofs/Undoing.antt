@@ -15,10 +15,10 @@ use Rattle.table_model.proofs.Same.{cut_nil}
 use Rattle.fib_addr.specs.declared.prefix.Prefix as code
 use Rattle.orig_tree.specs.Edits.{edit}
 use Rattle.orig_tree.specs.Views.{InPlace}
-use Rattle.orig_tree.specs.Walk.{Walks, edited, Allowed, has_node}
-use Rattle.orig_tree.specs.Arena.{Place, node_at, half_place, from_half, walks_at, IsTree, IsSet, HalvesStay, whole, IsArena}
+use Rattle.orig_tree.specs.Walk.{Walks, edited, CanEdit, has_node}
+use Rattle.orig_tree.specs.Arena.{Owner, cell_at, half_place, from_half, walks_at, IsTree, IsSet, HalvesStay, whole, IsArena}
 use Rattle.orig_tree.specs.Bests.{AreBest, put_at, back, KeepsBest}
-use Rattle.orig_tree.specs.Undos.{undone, routes_before, TakesBack, CanUndo}
+use Rattle.orig_tree.specs.Undos.{undone, routes_before, UndoesChange, CanUndo}
 use Rattle.orig_tree.specs.declared.node.Node.{Node}
 use Rattle.orig_tree.specs.declared.node.Label.TheVariants.{Route}
 use Rattle.orig_tree.specs.declared.best.Best.{Best}
@@ -43,13 +43,13 @@ pub edit_back : (d : ℕ) (cells : List Node) (i : ℕ) (p : List Bool) (s : Opt
 unfolding walks_at
 edit_back zero cells i p s l = absurd (omega (arith, l))
 edit_back (suc d) cells i [] s l =
-    let n = node_at cells i in
+    let n = cell_at cells i in
     let o = n.route.hop in
     let L = (from_half (walks_at d cells) (half_place n false)).routes in
     let M = (from_half (walks_at d cells) (half_place n true)).routes in
     ap (edit [] (root (join o L M))) (edit_own s o L M) ∙ (edit_own (root (join o L M)) s L M ∙ ap (λ x. join x L M) (root_join o L M))
 edit_back (suc d) cells i (false ∷ p) s l =
-    let n = node_at cells i in
+    let n = cell_at cells i in
     let o = n.route.hop in
     let L = (from_half (walks_at d cells) (half_place n false)).routes in
     let M = (from_half (walks_at d cells) (half_place n true)).routes in
@@ -61,7 +61,7 @@ edit_back (suc d) cells i (false ∷ p) s l =
     half_back ih None = nothing_back p s
     half_back ih (Some j) = ih j
 edit_back (suc d) cells i (true ∷ p) s l =
-    let n = node_at cells i in
+    let n = cell_at cells i in
     let o = n.route.hop in
     let L = (from_half (walks_at d cells) (half_place n false)).routes in
     let M = (from_half (walks_at d cells) (half_place n true)).routes in
@@ -111,10 +111,10 @@ all_made xs items n k e f l =
 
 abbrev pub Assigns : Option ℕ → ℕ → ℕ → List Node → List Node → Type 0
 Assigns set len q old new =
-    (d : ℕ) (name : ℕ → Place) (p : List Bool) → len < d → IsTree d old name 0 p → Allowed (bits_of len q) set (walks_at d old 0).nodes → IsSet d Route (bits_of len q) set old new name 0 p
+    (d : ℕ) (name : ℕ → Owner) (p : List Bool) → len < d → IsTree d old name 0 p → CanEdit (bits_of len q) set (walks_at d old 0).nodes → IsSet d Route (bits_of len q) set old new name 0 p
 
 -- a route is changed where what is kept stands for the change already
-pub put_in : (f : Family) (q len : ℕ) (set : Option ℕ) (free free' : ℕ) (old new : List Node) (S : ℕ → Best) → len ≤ width f → free' ≡ free → IsArena f old free → Allowed (bits_of len q) set (whole f old).nodes →
+pub put_in : (f : Family) (q len : ℕ) (set : Option ℕ) (free free' : ℕ) (old new : List Node) (S : ℕ → Best) → len ≤ width f → free' ≡ free → IsArena f old free → CanEdit (bits_of len q) set (whole f old).nodes →
     AreBest (suc (width f)) old S (λ a. lpm (edit (bits_of len q) set (whole f old).routes) a 0) 0 → Assigns set len q old new → HalvesStay old new →
     IsArena f new free' × KeepsBest f new S × (whole f new ≡ edited Route (bits_of len q) set (whole f old))
 put_in f q len set free free' old new S few g a w k assigned stay =
@@ -126,7 +126,7 @@ put_in f q len set free free' old new S few g a w k assigned stay =
     )
 
 -- what was kept is there again, and the route
-pub taken_back : (f : Family) (R : Table) (u : Undo) (n free free' : ℕ) (old new : List Node) (S S2 : ℕ → Best) → TakesBack f R old S u → free' ≡ free → IsArena f old free → length old ≤ n + 1 →
+pub taken_back : (f : Family) (R : Table) (u : Undo) (n free free' : ℕ) (old new : List Node) (S S2 : ℕ → Best) → UndoesChange f R old S u → free' ≡ free → IsArena f old free → length old ≤ n + 1 →
     ((j : ℕ) → j ≤ n → S2 j ≡ back u.changes.items S j) → Assigns u.hop u.len u.q old new → HalvesStay old new →
     IsArena f new free' × KeepsBest f new S2 × (whole f new ≡ edited Route (bits_of u.len u.q) u.hop (whole f old))
 taken_back f R u n free free' old new S S2 t g a l made assigned stay =
@@ -135,13 +135,13 @@ taken_back f R u n free free' old new S S2 t g a l made assigned stay =
     put_in f u.q u.len u.hop free free' old new S2 t.few g a t.allowed
     (best_alike (suc (width f)) old S2 F (λ x. lpm (undone u (whole f old).routes) x 0) 0 (λ x z. ap (λ K. lpm K x 0) (sym t.routes)) k) assigned stay
 
-pub if_allowed : (p : List Bool) (o : Option ℕ) (nodes : List (List Bool)) → has_node p nodes ≡ true → Allowed p o nodes
+pub if_allowed : (p : List Bool) (o : Option ℕ) (nodes : List (List Bool)) → has_node p nodes ≡ true → CanEdit p o nodes
 if_allowed p None nodes h = tt
 if_allowed p (Some g) nodes h = h
 
 -- the change that was made can be taken back
 pub takes_back : (f : Family) (u : Undo) (set : Option ℕ) (n free : ℕ) (old new : List Node) (S S2 : ℕ → Best) → u.len ≤ width f → u.hop ≡ entry_at (bits_of u.len u.q) (whole f old).routes → IsArena f old free → KeepsBest f old S → length old ≤ n + 1 →
-    ((j : ℕ) → j ≤ n → back u.changes.items S2 j ≡ S j) → HalvesStay old new → whole f new ≡ edited Route (bits_of u.len u.q) set (whole f old) → has_node (bits_of u.len u.q) (whole f old).nodes ≡ true → TakesBack f (whole f old).routes new S2 u
+    ((j : ℕ) → j ≤ n → back u.changes.items S2 j ≡ S j) → HalvesStay old new → whole f new ≡ edited Route (bits_of u.len u.q) set (whole f old) → has_node (bits_of u.len u.q) (whole f old).nodes ≡ true → UndoesChange f (whole f old).routes new S2 u
 takes_back f u set n free old new S S2 few own a k l made stay w there =
     let p = bits_of u.len u.q in
     let F = λ (x : List Bool). lpm (whole f old).routes x 0 in
@@ -155,13 +155,13 @@ takes_back f u set n free old new S S2 few own a k l made stay w there =
       allowed = if_allowed p u.hop (whole f new).nodes (ap (λ (y : Walks). has_node p y.nodes) w ∙ there);
     }
 
-pub can_undo : (f : Family) (R : Table) (cells : List Node) (S : ℕ → Best) (u : Undo) → TakesBack f R cells S u → InPlace (of_table f R) → CanUndo f cells S (Some u)
+pub can_undo : (f : Family) (R : Table) (cells : List Node) (S : ℕ → Best) (u : Undo) → UndoesChange f R cells S u → InPlace (of_table f R) → CanUndo f cells S (Some u)
 can_undo f R cells S u t i = (
   record { routes = refl; best = subst (λ (K : Table). AreBest (suc (width f)) cells (back u.changes.items S) (λ a. lpm K a 0) 0) (sym t.routes) t.best; few = t.few; allowed = t.allowed },
   subst (λ (K : Table). InPlace (of_table f K)) (sym t.routes) i,
 )
 
-pub kept_if : (was : Bool) (f : Family) (R : Table) (cells : List Node) (S : ℕ → Best) (u : Undo) → (was ≡ true → TakesBack f R cells S u) → InPlace (of_table f R) → CanUndo f cells S (cond was (Some u) None)
+pub kept_if : (was : Bool) (f : Family) (R : Table) (cells : List Node) (S : ℕ → Best) (u : Undo) → (was ≡ true → UndoesChange f R cells S u) → InPlace (of_table f R) → CanUndo f cells S (cond was (Some u) None)
 kept_if true f R cells S u t i = can_undo f R cells S u (t refl) i
 kept_if false f R cells S u t i = tt
 
@@ -176,7 +176,7 @@ can_stay f old new S (Some u) h r m c =
       routes = same;
       best = best_stay (suc (width f)) old new (back u.changes.items S) (λ a. lpm R a 0) 0 h c.0.best;
       few = c.0.few;
-      allowed = subst (λ (x : List (List Bool)). Allowed (bits_of u.len u.q) u.hop x) (sym m) c.0.allowed;
+      allowed = subst (λ (x : List (List Bool)). CanEdit (bits_of u.len u.q) u.hop x) (sym m) c.0.allowed;
     }) c.1
 
 back_same : (cs : List Change) (S T : ℕ → Best) → ((j : ℕ) → T j ≡ S j) → (j : ℕ) → back cs T j ≡ back cs S j

@@ -24,10 +24,10 @@ use Rattle.orig_tree.specs.Edits.{put}
 use Rattle.orig_tree.specs.Walk.{Walks, rows_of, edited, labelled}
 use Rattle.orig_tree.specs.Cover.{IsCover, covered}
 use Rattle.orig_tree.specs.Slots.{AreCovers}
-use Rattle.orig_tree.specs.Arena.{Place, At, node_at, half_place, from_half, walks_by, walks_at, IfHalf, IsTree, IsHeld, IsSet, IsSplit, is_in, KeepsOthers, HalvesStay, cover_at, retold}
+use Rattle.orig_tree.specs.Arena.{Owner, At, cell_at, half_place, from_half, walks_by, walks_at, IfHalf, IsTree, HasSpares, IsSet, IsSplit, is_below, KeepsOthers, HalvesStay, cover_at, retold}
 use Rattle.orig_tree.specs.Bests.{best_one, AreBest}
 use Rattle.orig_tree.specs.Placed.{Climbs, told_again}
-use Rattle.orig_tree.specs.Woven.{beside, with_rows, IsWoven, IsOpened, Weaves}
+use Rattle.orig_tree.specs.Merged.{beside, with_rows, IsMerged, IsHalfMade, Merges}
 use Rattle.orig_tree.specs.Packed.{cover_in}
 use Rattle.orig_tree.specs.declared.cover.Cover.{Cover}
 use Rattle.orig_tree.specs.declared.node.Node.{Node}
@@ -81,8 +81,8 @@ rows_alike Entry a b r e = e
 
 -- ---- one after the other
 
-pub woven_none : (d : ℕ) (label : Label) (cells : List Node) (free n : ℕ) (name : ℕ → Place) (i : ℕ) (p : List Bool) (h : ℕ) (S : ℕ → Best) → IsTree d cells name i p → IsHeld cells free name n → IsWoven d label [] cells cells free name i p h S S
-woven_none d label cells free n name i p h S t held = record {
+pub merged_none : (d : ℕ) (label : Label) (cells : List Node) (free n : ℕ) (name : ℕ → Owner) (i : ℕ) (p : List Bool) (h : ℕ) (S : ℕ → Best) → IsTree d cells name i p → HasSpares cells free name n → IsMerged d label [] cells cells free name i p h S S
+merged_none d label cells free n name i p h S t held = record {
   name' = name;
   spares = n;
   tree = t;
@@ -93,9 +93,9 @@ woven_none d label cells free n name i p h S t held = record {
   grown = λ e k. grown_end d cells name i p (λ a. lpm (walks_at d cells i).routes a h) S k;
 }
 
-pub woven_after : (d : ℕ) (label : Label) (T U : Table) (old mid new : List Node) (free free' : ℕ) (name : ℕ → Place) (i : ℕ) (p : List Bool) (h : ℕ) (S S1 S' : ℕ → Best) →
-    (x : IsWoven d label T old mid free name i p h S S1) → IsWoven d label U mid new free' x.name' i p h S1 S' → IsWoven d label (T ++ U) old new free' name i p h S S'
-woven_after d label T U old mid new free free' name i p h S S1 S' x y = record {
+pub merged_after : (d : ℕ) (label : Label) (T U : Table) (old mid new : List Node) (free free' : ℕ) (name : ℕ → Owner) (i : ℕ) (p : List Bool) (h : ℕ) (S S1 S' : ℕ → Best) →
+    (x : IsMerged d label T old mid free name i p h S S1) → IsMerged d label U mid new free' x.name' i p h S1 S' → IsMerged d label (T ++ U) old new free' name i p h S S'
+merged_after d label T U old mid new free free' name i p h S S1 S' x y = record {
   name' = y.name';
   spares = y.spares;
   tree = y.tree;
@@ -114,17 +114,17 @@ woven_after d label T U old mid new free free' name i p h S S1 S' x y = record {
 }
 
 -- a label is set at a path that is a node
-pub woven_set : (d : ℕ) (label : Label) (q : List Bool) (hop : ℕ) (old new : List Node) (free n : ℕ) (name : ℕ → Place) (i : ℕ) (p : List Bool) (h : ℕ) (S : ℕ → Best) → HalvesStay old new → IsHeld old free name n →
-    IsSet d label q (Some hop) old new name i p → IsWoven d label (entry q hop ∷ []) old new free name i p h S S
-woven_set d label q hop old new free n name i p h S stay held s = record {
+pub merged_set : (d : ℕ) (label : Label) (q : List Bool) (hop : ℕ) (old new : List Node) (free n : ℕ) (name : ℕ → Owner) (i : ℕ) (p : List Bool) (h : ℕ) (S : ℕ → Best) → HalvesStay old new → HasSpares old free name n →
+    IsSet d label q (Some hop) old new name i p → IsMerged d label (entry q hop ∷ []) old new free name i p h S S
+merged_set d label q hop old new free n name i p h S stay held s = record {
   name' = name;
   spares = n;
   tree = s.tree;
   held = record {
     past = λ j l. held.past j (omega (arith, l, s.keeps.long));
-    spare = spare_kept n old new name name free (omega (arith, s.keeps.long)) (λ j m l e. (s.keeps.same j (ap (is_in p) e), e)) held.spare;
+    spare = spare_kept n old new name name free (omega (arith, s.keeps.long)) (λ j m l e. (s.keeps.same j (ap (is_below p) e), e)) held.spare;
   };
-  keeps = record { long = omega (arith, s.keeps.long); same = λ j r e out. (s.keeps.same j (ap (is_in p) e ∙ out), e) };
+  keeps = record { long = omega (arith, s.keeps.long); same = λ j r e out. (s.keeps.same j (ap (is_below p) e ∙ out), e) };
   rows = ap (rows_of label) s.walks ∙ rows_edited label q hop (walks_at d old i);
   other = ap (rows_of (beside label)) s.walks ∙ beside_edited label q (Some hop) (walks_at d old i);
   grown = λ e k. grown_end d new name i p (λ a. lpm (walks_at d old i).routes a h) S (best_stay d old new S (λ a. lpm (walks_at d old i).routes a h) i stay k);
@@ -132,20 +132,20 @@ woven_set d label q hop old new free n name i p h S stay held s = record {
 
 -- ---- a half is opened
 
-pub opened_some : (d : ℕ) (b : Bool) (cells : List Node) (free n : ℕ) (name : ℕ → Place) (i : ℕ) (p : List Bool) (h : ℕ) (S : ℕ → Best) (j : ℕ) → half_place (node_at cells i) b ≡ Some j → IsTree d cells name i p → IsHeld cells free name n →
-    IsOpened d b cells cells free name i p h S S j
-opened_some d b cells free n name i p h S j is t held = record { woven = λ label. woven_none d label cells free n name i p h S t held; half = is }
+pub opened_some : (d : ℕ) (b : Bool) (cells : List Node) (free n : ℕ) (name : ℕ → Owner) (i : ℕ) (p : List Bool) (h : ℕ) (S : ℕ → Best) (j : ℕ) → half_place (cell_at cells i) b ≡ Some j → IsTree d cells name i p → HasSpares cells free name n →
+    IsHalfMade d b cells cells free name i p h S S j
+opened_some d b cells free n name i p h S j is t held = record { merged = λ label. merged_none d label cells free n name i p h S t held; half = is }
 
 one_bit : (b : Bool) → b ≡ nat_eq (bit_at (cond b 1 0) 0) 1
 one_bit true = refl
 one_bit false = refl
 
-pub opened_none : (d : ℕ) (b : Bool) (n : Node) (old mid : List Node) (free : ℕ) (name : ℕ → Place) (i : ℕ) (p : List Bool) (h hop : ℕ) (S S1 : ℕ → Best) (j : ℕ) → n ≡ node_at old i → hop ≡ unwrap_or n.route.hop h → half_place n b ≡ None → 1 < d → IsTree d old name i p →
-    IsSplit d b old mid free name i p j → ((k : ℕ) (r : List Bool) → name k ≡ At r → k ≢ j → S1 k ≡ S k) → S1 j ≡ best_one hop → IsOpened d b old mid free name i p h S S1 j
+pub opened_none : (d : ℕ) (b : Bool) (n : Node) (old mid : List Node) (free : ℕ) (name : ℕ → Owner) (i : ℕ) (p : List Bool) (h hop : ℕ) (S S1 : ℕ → Best) (j : ℕ) → n ≡ cell_at old i → hop ≡ unwrap_or n.route.hop h → half_place n b ≡ None → 1 < d → IsTree d old name i p →
+    IsSplit d b old mid free name i p j → ((k : ℕ) (r : List Bool) → name k ≡ At r → k ≢ j → S1 k ≡ S k) → S1 j ≡ best_one hop → IsHalfMade d b old mid free name i p h S S1 j
 opened_none d b n old mid free name i p h hop S S1 j at hop_is gone l t s same fresh =
     let walks = s.walks [] in
     record {
-      woven = λ label. record {
+      merged = λ label. record {
         name' = s.name';
         spares = s.spares;
         tree = s.tree;
@@ -160,12 +160,12 @@ opened_none d b n old mid free name i p h hop S S1 j at hop_is gone l t s same f
     }
 
 -- what was reserved is what there was
-pub opened_same : (d : ℕ) (b : Bool) (old mid new : List Node) (free : ℕ) (name : ℕ → Place) (i : ℕ) (p : List Bool) (h : ℕ) (S S1 S' : ℕ → Best) (j : ℕ) → mid ≡ old → ((k : ℕ) → S1 k ≡ S k) → IsOpened d b mid new free name i p h S1 S' j → IsOpened d b old new free name i p h S S' j
+pub opened_same : (d : ℕ) (b : Bool) (old mid new : List Node) (free : ℕ) (name : ℕ → Owner) (i : ℕ) (p : List Bool) (h : ℕ) (S S1 S' : ℕ → Best) (j : ℕ) → mid ≡ old → ((k : ℕ) → S1 k ≡ S k) → IsHalfMade d b mid new free name i p h S1 S' j → IsHalfMade d b old new free name i p h S S' j
 opened_same d b old mid new free name i p h S S1 S' j e s x =
-    let y = subst (λ (cs : List Node). IsOpened d b cs new free name i p h S1 S' j) e x in
+    let y = subst (λ (cs : List Node). IsHalfMade d b cs new free name i p h S1 S' j) e x in
     record {
-      woven = λ label.
-          let w = y.woven label in
+      merged = λ label.
+          let w = y.merged label in
           record {
             name' = w.name';
             spares = w.spares;
@@ -184,13 +184,13 @@ opened_same d b old mid new free name i p h S S1 S' j e s x =
 -- ---- below a half
 
 -- a node with one label told again, once its halves' tables of that label have changed
-covers_woven : (label : Label) (own : Option ℕ) (cl ch : Cover) (n : Node) (low high low' high' : Walks) → rows_of (beside label) low' ≡ rows_of (beside label) low → rows_of (beside label) high' ≡ rows_of (beside label) high →
+covers_merged : (label : Label) (own : Option ℕ) (cl ch : Cover) (n : Node) (low high low' high' : Walks) → rows_of (beside label) low' ≡ rows_of (beside label) low → rows_of (beside label) high' ≡ rows_of (beside label) high →
     AreCovers n.route n.entry low high → IsCover (rows_of label low') cl → IsCover (rows_of label high') ch → AreCovers (retold label own cl ch n).route (retold label own cl ch n).entry low' high'
-covers_woven Route own cl ch n low high low' high' a b c l r = record {
+covers_merged Route own cl ch n low high low' high' a b c l r = record {
   routes = cover_packed (join own low'.routes high'.routes) (covered own cl ch) (cover_level own low'.routes high'.routes cl ch l r);
   entries = subst (λ (x : Table). IsCover (join n.entry.hop x high'.entries) (cover_in n.entry)) (sym a) (subst (λ (x : Table). IsCover (join n.entry.hop low.entries x) (cover_in n.entry)) (sym b) c.entries);
 }
-covers_woven Entry own cl ch n low high low' high' a b c l r = record {
+covers_merged Entry own cl ch n low high low' high' a b c l r = record {
   routes = subst (λ (x : Table). IsCover (join n.route.hop x high'.routes) (cover_in n.route)) (sym a) (subst (λ (x : Table). IsCover (join n.route.hop low.routes x) (cover_in n.route)) (sym b) c.routes);
   entries = cover_packed (join own low'.entries high'.entries) (covered own cl ch) (cover_level own low'.entries high'.entries cl ch l r);
 }
@@ -203,12 +203,12 @@ beside_retold : (label : Label) (own : Option ℕ) (cl ch : Cover) (n : Node) �
 beside_retold Route own cl ch n = refl
 beside_retold Entry own cl ch n = refl
 
-module _ (d : ℕ) (label : Label) (T : Table) (mid below : List Node) (free : ℕ) (name : ℕ → Place) (i j : ℕ) (p : List Bool) (b : Bool) (h hop : ℕ) (S S' : ℕ → Best) where
-  pub woven_half : (new : List Node) → IsTree (suc d) mid name i p → half_place (node_at mid i) b ≡ Some j → hop ≡ unwrap_or (node_at mid i).route.hop h → IsWoven d label T mid below free name j (p ++ (b ∷ [])) hop S S' →
-      new ≡ slice_set below i (told_again label below (node_at below i)) → IsWoven (suc d) label (lift (b ∷ []) T) mid new free name i p h S S'
+module _ (d : ℕ) (label : Label) (T : Table) (mid below : List Node) (free : ℕ) (name : ℕ → Owner) (i j : ℕ) (p : List Bool) (b : Bool) (h hop : ℕ) (S S' : ℕ → Best) where
+  pub merged_half : (new : List Node) → IsTree (suc d) mid name i p → half_place (cell_at mid i) b ≡ Some j → hop ≡ unwrap_or (cell_at mid i).route.hop h → IsMerged d label T mid below free name j (p ++ (b ∷ [])) hop S S' →
+      new ≡ slice_set below i (told_again label below (cell_at below i)) → IsMerged (suc d) label (lift (b ∷ []) T) mid new free name i p h S S'
   unfolding walks_at IsTree AreBest
-  woven_half new t is hop_is y e =
-      let n = node_at mid i in
+  merged_half new t is hop_is y e =
+      let n = cell_at mid i in
       let Old = walks_at d mid in
       let W = walks_at d below in
       let at = y.keeps.same i p t.0 (begins_self_not p b) in
@@ -230,14 +230,14 @@ module _ (d : ℕ) (label : Label) (T : Table) (mid below : List Node) (free : �
       let Both : Type 0 = (join own (rows_of label low') (rows_of label high') ≡ with_rows (lift (b ∷ []) T) (join own (rows_of label low) (rows_of label high)))
       × (rows_of (beside label) low' ≡ rows_of (beside label) low) × (rows_of (beside label) high' ≡ rows_of (beside label) high) × ((c : Bool) → IfHalf (In c) (half_place n c)) in
       let both : Both = sides b mine rest in
-      let covers = covers_woven label own cl ch n low high low' high' both.1 both.2 t.2.covers
+      let covers = covers_merged label own cl ch n low high low' high' both.1 both.2 t.2.covers
       (cover_half label d below y.name' (p ++ (false ∷ [])) (half_place n false) (both.3 false)) (cover_half label d below y.name' (p ++ (true ∷ [])) (half_place n true) (both.3 true)) in
       let g = renode label own cl ch n W In covers both.3 in
       let x = placed d below i m y.name' p at.1 (omega (arith, t.1, y.keeps.long)) g.1 in
       let ph = put_held below free i y.spares m y.name' p at.1 y.held in
       let inner : KeepsOthers p mid below name y.name' = record { long = y.keeps.long; same = λ z v f u. y.keeps.same z v f (no (begins (p ++ (b ∷ [])) v) (λ w. no_begin p v b w u)) } in
       let f : List Bool → ℕ = λ a. lpm (walks_by Old n).routes a h in
-      subst (λ (cs : List Node). IsWoven (suc d) label (lift (b ∷ []) T) mid cs free name i p h S S') (sym put_is) (record {
+      subst (λ (cs : List Node). IsMerged (suc d) label (lift (b ∷ []) T) mid cs free name i p h S S') (sym put_is) (record {
         name' = y.name';
         spares = y.spares;
         tree = x.1;
@@ -254,12 +254,12 @@ module _ (d : ℕ) (label : Label) (T : Table) (mid below : List Node) (free : �
             let a = y.grown u (best_alike d mid S (side b f) (λ a. lpm (Old j).routes a hop) j (λ a l. sym (gets a)) mine_best) in
             let w = grown_below d mid below i j name y.name' p b f S S' is t y.keeps k (grown_alike d below name j (p ++ (b ∷ [])) (λ a. lpm (Old j).routes a hop) (side b f) S S' gets a) in
             record {
-              best = best_stay (suc d) below (slice_set below i m) S' f i (halves_retold below below (slice_set below i m) i label own cl ch (node_at below i) m refl (ap (retold label own cl ch) (sym at.0)) refl (halves_same below)) w.best;
+              best = best_stay (suc d) below (slice_set below i m) S' f i (halves_retold below below (slice_set below i m) i label own cl ch (cell_at below i) m refl (ap (retold label own cl ch) (sym at.0)) refl (halves_same below)) w.best;
               keeps = w.keeps;
             };
       })
     where
-      sides : (c : Bool) → (let n = node_at mid i in
+      sides : (c : Bool) → (let n = cell_at mid i in
           (rows_of label (from_half (walks_at d below) (half_place n c)) ≡ with_rows T (rows_of label (from_half (walks_at d mid) (half_place n c)))) × (rows_of (beside label) (from_half (walks_at d below) (half_place n c)) ≡ rows_of (beside label) (from_half (walks_at d mid) (half_place n c))) × IfHalf (λ z. IsTree d below y.name' z (p ++ (c ∷ []))) (half_place n c) →
           ((e : Bool) → c ≢ e → (from_half (walks_at d below) (half_place n e) ≡ from_half (walks_at d mid) (half_place n e)) × IfHalf (λ z. IsTree d below y.name' z (p ++ (e ∷ []))) (half_place n e)) →
           (join (labelled label n.route.hop n.entry.hop) (rows_of label (from_half (walks_at d below) (half_place n false))) (rows_of label (from_half (walks_at d below) (half_place n true)))
@@ -268,7 +268,7 @@ module _ (d : ℕ) (label : Label) (T : Table) (mid below : List Node) (free : �
           × (rows_of (beside label) (from_half (walks_at d below) (half_place n true)) ≡ rows_of (beside label) (from_half (walks_at d mid) (half_place n true)))
           × ((e : Bool) → IfHalf (λ z. IsTree d below y.name' z (p ++ (e ∷ []))) (half_place n e)))
       sides true m r =
-          let n = node_at mid i in
+          let n = cell_at mid i in
           let own = labelled label n.route.hop n.entry.hop in
           let o = r false (λ z. cc) in (
             ap (λ L. join own L (rows_of label (from_half (walks_at d below) (half_place n true)))) (ap (rows_of label) o.0)
@@ -278,7 +278,7 @@ module _ (d : ℕ) (label : Label) (T : Table) (mid below : List Node) (free : �
             λ e. elim e as (λ e. IfHalf (λ z. IsTree d below y.name' z (p ++ (e ∷ []))) (half_place n e)) [ true ↦ m.2 | false ↦ o.1 ],
           )
       sides false m r =
-          let n = node_at mid i in
+          let n = cell_at mid i in
           let own = labelled label n.route.hop n.entry.hop in
           let o = r true (λ z. cc) in (
             ap (λ L. join own L (rows_of label (from_half (walks_at d below) (half_place n true)))) m.0
@@ -290,18 +290,18 @@ module _ (d : ℕ) (label : Label) (T : Table) (mid below : List Node) (free : �
 
 -- ---- what is taken from the front of a list
 
-pub weaves_none : (label : Label) (h levels : ℕ) (p : Prefix) (cells : List Node) (free : ℕ) (S : ℕ → Best) (i : ℕ) (E : Entries) → Weaves label h levels p cells cells free free S S i E E
-weaves_none label h levels p cells free S i E = record { taken = []; front = refl; woven = λ d name n r l t held. woven_none d label cells free n name i r h S t held }
+pub merges_none : (label : Label) (h levels : ℕ) (p : Prefix) (cells : List Node) (free : ℕ) (S : ℕ → Best) (i : ℕ) (E : Entries) → Merges label h levels p cells cells free free S S i E E
+merges_none label h levels p cells free S i E = record { taken = []; front = refl; merged = λ d name n r l t held. merged_none d label cells free n name i r h S t held }
 
-pub weaves_after : (label : Label) (h levels : ℕ) (p : Prefix) (old mid new : List Node) (free free1 free' : ℕ) (S S1 S' : ℕ → Best) (i : ℕ) (E D F : Entries) → Weaves label h levels p old mid free free1 S S1 i E D → Weaves label h levels p mid new free1 free' S1 S' i D F →
-    Weaves label h levels p old new free free' S S' i E F
-weaves_after label h levels p old mid new free free1 free' S S1 S' i E D F x y = record {
+pub merges_after : (label : Label) (h levels : ℕ) (p : Prefix) (old mid new : List Node) (free free1 free' : ℕ) (S S1 S' : ℕ → Best) (i : ℕ) (E D F : Entries) → Merges label h levels p old mid free free1 S S1 i E D → Merges label h levels p mid new free1 free' S1 S' i D F →
+    Merges label h levels p old new free free' S S' i E F
+merges_after label h levels p old mid new free free1 free' S S1 S' i E D F x y = record {
   taken = x.taken ++ y.taken;
   front = x.front ∙ (ap (λ z. of_table p.family (lift p.bits x.taken) ++ z) y.front ∙ (sym (append_assoc (of_table p.family (lift p.bits x.taken)) (of_table p.family (lift p.bits y.taken)) F)
       ∙ ap (λ z. z ++ F) (sym (ap (of_table p.family) (lift_append p.bits x.taken y.taken) ∙ seen_append p.family (lift p.bits x.taken) (lift p.bits y.taken)))));
-  woven = λ d name n r l t held.
-      let a = x.woven d name n r l t held in
-      woven_after d label x.taken y.taken old mid new free1 free' name i r h S S1 S' a (y.woven d a.name' a.spares r l a.tree a.held);
+  merged = λ d name n r l t held.
+      let a = x.merged d name n r l t held in
+      merged_after d label x.taken y.taken old mid new free1 free' name i r h S S1 S' a (y.merged d a.name' a.spares r l a.tree a.held);
 }
 
 pub first_rest : (E : List code_entry.Entry) (x : code_entry.Entry) → 1 ≤ length E → x ≡ get_or E 0 x → E ≡ x ∷ take (length E - 1) (drop 1 E)
@@ -323,34 +323,34 @@ same_code p q e =
     ∙ ap (λ l. let x : Prefix = record { family = q.family; bits = take l (bits_of (width q.family) q.bits) } in x) (eqb-true p.len q.len b.1))
 
 -- the first entry is the node's own
-pub weaves_own : (label : Label) (h levels : ℕ) (p : Prefix) (n : Node) (m : Node) (old new : List Node) (free free' : ℕ) (S : ℕ → Best) (i hop : ℕ) (E : Entries) → n ≡ node_at old i → m ≡ retold label (Some hop) (cover_at old label (half_place n false)) (cover_at old label (half_place n true)) n →
-    new ≡ slice_set old i m → free' ≡ free → Weaves label h levels p old new free free' S S i ((p, hop) ∷ E) E
-weaves_own label h levels p n m old new free free' S i hop E at r s fr =
-    subst (λ (x : ℕ). Weaves label h levels p old new free x S S i ((p, hop) ∷ E) E) (sym fr) (record {
+pub merges_own : (label : Label) (h levels : ℕ) (p : Prefix) (n : Node) (m : Node) (old new : List Node) (free free' : ℕ) (S : ℕ → Best) (i hop : ℕ) (E : Entries) → n ≡ cell_at old i → m ≡ retold label (Some hop) (cover_at old label (half_place n false)) (cover_at old label (half_place n true)) n →
+    new ≡ slice_set old i m → free' ≡ free → Merges label h levels p old new free free' S S i ((p, hop) ∷ E) E
+merges_own label h levels p n m old new free free' S i hop E at r s fr =
+    subst (λ (x : ℕ). Merges label h levels p old new free x S S i ((p, hop) ∷ E) E) (sym fr) (record {
       taken = entry [] hop ∷ [];
       front = ap (λ z. z ++ E) (told_own p (Some hop));
-      woven = λ d name c v l t held. woven_set d label [] hop old new free c name i v h S (halves_retold old old new i label (Some hop) _ _ n m at r s (halves_same old)) held (subst (λ (q : List Bool). IsSet d label q (Some hop) old new name i v) (no_bits 0 0 refl) (set_here label 0 0 (Some hop) old i n at new m d name v refl r s t));
+      merged = λ d name c v l t held. merged_set d label [] hop old new free c name i v h S (halves_retold old old new i label (Some hop) _ _ n m at r s (halves_same old)) held (subst (λ (q : List Bool). IsSet d label q (Some hop) old new name i v) (no_bits 0 0 refl) (set_here label 0 0 (Some hop) old i n at new m d name v refl r s t));
     })
 
-pub weaves_half : (label : Label) (h hop : ℕ) (p q : code.Prefix) (b more : Bool) (old mid below new : List Node) (free free1 free2 free' : ℕ) (S S1 S' : ℕ → Best) (i j : ℕ) (E D : Entries) → p.len < width p.family → prefix_as q ≡ half_at b (prefix_as p) →
-    ((d : ℕ) (name : ℕ → Place) (n : ℕ) (r : List Bool) → 1 < d → IsTree d old name i r → IsHeld old free name n → IsOpened d b old mid free1 name i r h S S1 j) → hop ≡ unwrap_or (node_at mid i).route.hop h →
-    Weaves label hop (width q.family - q.len) (prefix_as q) mid below free1 free2 S1 S' j E D → Climbs label true more below new i → free' ≡ free2 →
-    Weaves label h (width p.family - p.len) (prefix_as p) old new free free' S S' i E D
-weaves_half label h hop p q b more old mid below new free free1 free2 free' S S1 S' i j E D longer half opens hop_is y climbs fr =
+pub merges_half : (label : Label) (h hop : ℕ) (p q : code.Prefix) (b more : Bool) (old mid below new : List Node) (free free1 free2 free' : ℕ) (S S1 S' : ℕ → Best) (i j : ℕ) (E D : Entries) → p.len < width p.family → prefix_as q ≡ half_at b (prefix_as p) →
+    ((d : ℕ) (name : ℕ → Owner) (n : ℕ) (r : List Bool) → 1 < d → IsTree d old name i r → HasSpares old free name n → IsHalfMade d b old mid free1 name i r h S S1 j) → hop ≡ unwrap_or (cell_at mid i).route.hop h →
+    Merges label hop (width q.family - q.len) (prefix_as q) mid below free1 free2 S1 S' j E D → Climbs label true more below new i → free' ≡ free2 →
+    Merges label h (width p.family - p.len) (prefix_as p) old new free free' S S' i E D
+merges_half label h hop p q b more old mid below new free free1 free2 free' S S1 S' i j E D longer half opens hop_is y climbs fr =
     let P = prefix_as p in
     let len = half_longer p q b half in
     let fam = ap (λ (x : Prefix). width x.family) half in
-    subst (λ (x : ℕ). Weaves label h (width p.family - p.len) P old new free x S S' i E D) (sym fr) (record {
+    subst (λ (x : ℕ). Merges label h (width p.family - p.len) P old new free x S S' i E D) (sym fr) (record {
       taken = lift (b ∷ []) y.taken;
       front = y.front ∙ ap (λ z. z ++ D) (ap (λ (x : Prefix). of_table x.family (lift x.bits y.taken)) half ∙ ap (of_table P.family) (sym (lift_lift P.bits (b ∷ []) y.taken)));
-      woven = λ d name n r l t held. by_depth d name n r l t held (omega (arith, longer, l));
+      merged = λ d name n r l t held. by_depth d name n r l t held (omega (arith, longer, l));
     })
   where
-    by_depth : (d : ℕ) (name : ℕ → Place) (n : ℕ) (r : List Bool) → width p.family - p.len < d → IsTree d old name i r → IsHeld old free name n → 1 < d → IsWoven d label (lift (b ∷ []) y.taken) old new free2 name i r h S S'
+    by_depth : (d : ℕ) (name : ℕ → Owner) (n : ℕ) (r : List Bool) → width p.family - p.len < d → IsTree d old name i r → HasSpares old free name n → 1 < d → IsMerged d label (lift (b ∷ []) y.taken) old new free2 name i r h S S'
     by_depth zero name n r l t held m = absurd (omega (arith, m))
     by_depth (suc d) name n r l t held m =
         let o = opens (suc d) name n r m t held in
-        let w = o.woven label in
+        let w = o.merged label in
         let in_half = tree_side d mid w.name' i j r b o.half w.tree in
-        let u = y.woven d w.name' w.spares (r ++ (b ∷ [])) (omega (arith, l, longer, half_longer p q b half, ap (λ (x : Prefix). width x.family) half)) in_half w.held in
-        woven_after (suc d) label [] (lift (b ∷ []) y.taken) old mid new free1 free2 name i r h S S1 S' w (woven_half d label y.taken mid below free2 w.name' i j r b h hop S1 S' new w.tree o.half hop_is u climbs.0)
+        let u = y.merged d w.name' w.spares (r ++ (b ∷ [])) (omega (arith, l, longer, half_longer p q b half, ap (λ (x : Prefix). width x.family) half)) in_half w.held in
+        merged_after (suc d) label [] (lift (b ∷ []) y.taken) old mid new free1 free2 name i r h S S1 S' w (merged_half d label y.taken mid below free2 w.name' i j r b h hop S1 S' new w.tree o.half hop_is u climbs.0)

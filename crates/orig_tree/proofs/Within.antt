@@ -18,8 +18,8 @@ use Rattle.table_model.specs.Halves.{is_within}
 use Rattle.fib_addr.specs.Views.{prefix_as}
 use Rattle.fib_addr.specs.declared.prefix.Prefix as code
 use Rattle.fib_addr.proofs.Parts.{length_prefix}
-use Rattle.orig_tree.specs.Views.{Fits}
-use Rattle.orig_tree.specs.Arena.{node_at, half_place, from_half, walks_at}
+use Rattle.orig_tree.specs.Views.{FitsWidth}
+use Rattle.orig_tree.specs.Arena.{cell_at, half_place, from_half, walks_at}
 use Rattle.orig_tree.specs.declared.node.Node.{Node}
 use Rattle.orig_tree.proofs.Branching.{half_rows}
 use Rattle.orig_tree.proofs.Paths.{no_bits, first_bit}
@@ -44,7 +44,7 @@ cut_half L M left q b n e m = ap (cut (bits_of (left - 1) q)) m ∙ sym (ap (λ 
 
 -- ---- one level of the array
 
-module _ (cells : List Node) (n : Node) (i left q : ℕ) (b : Bool) (o : Option ℕ) (at : n ≡ node_at cells i) (half_is : o ≡ half_place n b) (z : left ≢ 0) (k : b ≡ nat_eq (bit_at q (left - 1)) 1) where
+module _ (cells : List Node) (n : Node) (i left q : ℕ) (b : Bool) (o : Option ℕ) (at : n ≡ cell_at cells i) (half_is : o ≡ half_place n b) (z : left ≢ 0) (k : b ≡ nat_eq (bit_at q (left - 1)) 1) where
   pub route_step : (hop : Option ℕ) (d : ℕ) → ((e : ℕ) → left - 1 < e → hop ≡ entry_at (bits_of (left - 1) q) (from_half (walks_at e cells) o).routes) → left < d → hop ≡ entry_at (bits_of left q) (walks_at d cells i).routes
   route_step hop d below l =
       at_half (walks_at d cells i).routes (from_half (walks_at (d - 1) cells) o).routes left q b hop z k (half_rows b d cells i n o (λ e. omega arith) at half_is).0 (below (d - 1) (omega arith))
@@ -124,7 +124,7 @@ within_is f p L = ap (of_table f) (part_is p L) ∙ filtered f p L
 
 -- ---- entries cut are shorter
 
-fits_half_step : (b : Bool) (n : ℕ) (q : List Bool) (h : ℕ) (L : Table) → length q ≤ suc n → Fits n (half b L) → Fits n (half b (entry q h ∷ L))
+fits_half_step : (b : Bool) (n : ℕ) (q : List Bool) (h : ℕ) (L : Table) → length q ≤ suc n → FitsWidth n (half b L) → FitsWidth n (half b (entry q h ∷ L))
 fits_half_step true n [] h L s ih = ih
 fits_half_step false n [] h L s ih = ih
 fits_half_step true n (true ∷ q) h L s ih = (omega arith, ih)
@@ -132,17 +132,17 @@ fits_half_step false n (false ∷ q) h L s ih = (omega arith, ih)
 fits_half_step true n (false ∷ q) h L s ih = ih
 fits_half_step false n (true ∷ q) h L s ih = ih
 
-fits_half : (b : Bool) (n : ℕ) (L : Table) → Fits (suc n) L → Fits n (half b L)
+fits_half : (b : Bool) (n : ℕ) (L : Table) → FitsWidth (suc n) L → FitsWidth n (half b L)
 fits_half b n [] a = tt
 fits_half b n (e ∷ L) a = fits_half_step b n e.prefix e.hop L a.0 (fits_half b n L a.1)
 
-fits_cut : (p : List Bool) (m n : ℕ) (L : Table) → m ≡ length p + n → Fits m L → Fits n (cut p L)
-fits_cut [] m n L e a = let s : m ≡ n = omega arith in subst (λ (k : ℕ). Fits k L) s a
+fits_cut : (p : List Bool) (m n : ℕ) (L : Table) → m ≡ length p + n → FitsWidth m L → FitsWidth n (cut p L)
+fits_cut [] m n L e a = let s : m ≡ n = omega arith in subst (λ (k : ℕ). FitsWidth k L) s a
 fits_cut (b ∷ p) m n L e a =
     let s : m ≡ suc (length p + n) = omega arith in
-    fits_cut p (length p + n) n (half b L) refl (fits_half b (length p + n) L (subst (λ (k : ℕ). Fits k L) s a))
+    fits_cut p (length p + n) n (half b L) refl (fits_half b (length p + n) L (subst (λ (k : ℕ). FitsWidth k L) s a))
 
-pub fits_prefix : (p : code.Prefix) (f : Family) (q : List Bool) (L : Table) → p.family ≡ f → q ≡ (prefix_as p).bits → Fits (width f) L → Fits (width p.family - p.len) (cut q L)
+pub fits_prefix : (p : code.Prefix) (f : Family) (q : List Bool) (L : Table) → p.family ≡ f → q ≡ (prefix_as p).bits → FitsWidth (width f) L → FitsWidth (width p.family - p.len) (cut q L)
 fits_prefix p f q L e s a =
     let n : length q ≡ p.len = ap length s ∙ length_prefix (width p.family) p.len p.bits p.fits in
     let m : width f ≡ length q + (width p.family - p.len) = omega (arith, n, p.fits, ap width e) in

@@ -3,12 +3,12 @@ use Rattle.std.specs.Prelude.{◌≡◌, ℕ, zero, suc, List, [], ◌∷◌, Bo
 use Rattle.table_model.specs.Bits.{begins}
 use Rattle.table_model.specs.Table.{Table, lpm, half}
 use Rattle.table_model.specs.Sets.{side, set_of, k_of}
-use Rattle.hop_sets.specs.Hops.{SameHops}
+use Rattle.fib_addr.specs.HopSets.{SameHops}
 use Rattle.orig_tree.specs.Edits.{put}
 use Rattle.table_model.specs.Width.{width}
 use Rattle.table_model.specs.declared.family.Family.{Family}
 use Rattle.orig_tree.specs.Walk.{Walks, edited, has_node}
-use Rattle.orig_tree.specs.Arena.{Place, At, node_at, half_place, IfHalf, whole, IsRoomier}
+use Rattle.orig_tree.specs.Arena.{Owner, At, cell_at, half_place, IfHalf, whole, IsRoomier}
 use Rattle.orig_tree.specs.declared.node.Label.{Label}
 use Rattle.orig_tree.specs.declared.node.Node.{Node}
 use Rattle.orig_tree.specs.declared.best.Best.{Best}
@@ -16,7 +16,7 @@ use Rattle.orig_tree.specs.declared.best.Bests.{Bests}
 use Rattle.orig_tree.specs.declared.best.Change.{Change}
 
 -- a region of d more bits, whose addresses get the answers f, has these best hops and this cost
-pub record Stands (d : ℕ) (f : List Bool → ℕ) (x : Best) : Type 0 where
+pub record IsRegionBest (d : ℕ) (f : List Bool → ℕ) (x : Best) : Type 0 where
   pub hops : SameHops x.hops (set_of d f)
   pub cost : x.k ≡ k_of d f
 
@@ -33,7 +33,7 @@ best_in s i = slice_index_or (s.root ∷ s.halves.items) i (best_one 0)
 unfoldable pub AreBest : ℕ → List Node → (ℕ → Best) → (List Bool → ℕ) → ℕ → Type 0
 AreBest zero cells kept f i = Unit {0}
 AreBest (suc d) cells kept f i =
-    Stands d f (kept i) × ((b : Bool) → IfHalf (λ j. AreBest d cells kept (side b f) j) (half_place (node_at cells i) b))
+    IsRegionBest d f (kept i) × ((b : Bool) → IfHalf (λ j. AreBest d cells kept (side b f) j) (half_place (cell_at cells i) b))
 
 -- what a half keeps; where it is no node, x
 abbrev pub best_behind : (ℕ → Best) → Option ℕ → Best → Best
@@ -66,22 +66,22 @@ under h R [] = h
 under h R (b ∷ a) = lpm (half b R) a h
 
 -- the places of path p and below it keep what they kept
-abbrev pub Untouched : List Bool → (ℕ → Place) → (ℕ → Best) → (ℕ → Best) → Type 0
+abbrev pub Untouched : List Bool → (ℕ → Owner) → (ℕ → Best) → (ℕ → Best) → Type 0
 Untouched p name old new = (j : ℕ) (r : List Bool) → name j ≡ At r → begins p r ≡ true → new j ≡ old j
 
 -- and the places of other paths
-abbrev pub UntouchedElse : List Bool → (ℕ → Place) → (ℕ → Best) → (ℕ → Best) → Type 0
+abbrev pub UntouchedElse : List Bool → (ℕ → Owner) → (ℕ → Best) → (ℕ → Best) → Type 0
 UntouchedElse p name old new = (j : ℕ) (r : List Bool) → name j ≡ At r → begins p r ≡ false → new j ≡ old j
 
 -- the region of place i, of d more bits, stands for the answers f after more changes, which are at places of its path alone
-pub record IsMended (d : ℕ) (cells : List Node) (name : ℕ → Place) (i : ℕ) (p : List Bool) (f : List Bool → ℕ) (old new : ℕ → Best) (x : Best) : Type 0 where
-  pub stands : Stands d f x
+pub record IsMended (d : ℕ) (cells : List Node) (name : ℕ → Owner) (i : ℕ) (p : List Bool) (f : List Bool → ℕ) (old new : ℕ → Best) (x : Best) : Type 0 where
+  pub stands : IsRegionBest d f x
   pub best : AreBest (suc d) cells new f i
   pub keeps : UntouchedElse p name old new
 
 -- the same of a half, where it is a node or not
-pub record HalfMended (d : ℕ) (cells : List Node) (name : ℕ → Place) (half : Option ℕ) (p : List Bool) (f : List Bool → ℕ) (old new : ℕ → Best) (x : Best) : Type 0 where
-  pub stands : Stands d f x
+pub record HalfMended (d : ℕ) (cells : List Node) (name : ℕ → Owner) (half : Option ℕ) (p : List Bool) (f : List Bool → ℕ) (old new : ℕ → Best) (x : Best) : Type 0 where
+  pub stands : IsRegionBest d f x
   pub best : IfHalf (λ j. AreBest (suc d) cells new f j) half
   pub keeps : UntouchedElse p name old new
 
@@ -91,7 +91,7 @@ laid None q R = R
 laid (Some g) q R = put q g R
 
 -- the places after room was made: each node keeps what stands for its region, where f tells the answers of place i's
-pub record IsGrown (d : ℕ) (new : List Node) (name : ℕ → Place) (i : ℕ) (p : List Bool) (f : List Bool → ℕ) (old kept : ℕ → Best) : Type 0 where
+pub record IsGrown (d : ℕ) (new : List Node) (name : ℕ → Owner) (i : ℕ) (p : List Bool) (f : List Bool → ℕ) (old kept : ℕ → Best) : Type 0 where
   pub best : AreBest d new kept f i
   pub keeps : UntouchedElse p name old kept
 

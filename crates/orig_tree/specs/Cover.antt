@@ -1,15 +1,15 @@
 -- What a region's addresses get from the entries there, told to whoever knows what the region inherits.
 use Rattle.std.specs.Prelude.{◌≡◌, ◌≢◌, ℕ, List, length, Bool, true, false, ◌||◌, ◌&&◌, not, cond, nat_eq, Option, Some, None}
 use Rattle.table_model.specs.Table.{Table, lpm}
-use Rattle.orig_tree.specs.Views.{Fits}
+use Rattle.orig_tree.specs.Views.{FitsWidth}
 use Rattle.orig_tree.specs.declared.cover.Hops.{Hops}
 use Rattle.orig_tree.specs.declared.cover.Hops.TheVariants.{Zero, One, Many}
 use Rattle.orig_tree.specs.declared.cover.Cover.{Cover}
 
 -- whatever is inherited, the address gets it, or gets this hop
-abbrev pub Shows : Table → List Bool → Option ℕ → Type 0
-Shows L a None = (h : ℕ) → lpm L a h ≡ h
-Shows L a (Some g) = (h : ℕ) → lpm L a h ≡ g
+abbrev pub ShowsHop : Table → List Bool → Option ℕ → Type 0
+ShowsHop L a None = (h : ℕ) → lpm L a h ≡ h
+ShowsHop L a (Some g) = (h : ℕ) → lpm L a h ≡ g
 
 -- the hops have this one
 abbrev pub Allows : Hops → ℕ → Type 0
@@ -24,7 +24,7 @@ Within c (Some g) = Allows c.hops g
 
 -- some address of n bits gets this
 abbrev pub SomeGets : ℕ → Table → Option ℕ → Type 0
-SomeGets n L x = (a : List Bool) × (length a ≡ n) × Shows L a x
+SomeGets n L x = (a : List Bool) × (length a ≡ n) × ShowsHop L a x
 
 -- the hop is reached, and two different ones where there are many
 abbrev pub ReachedBy : (ℕ → Type 0) → Hops → Type 0
@@ -35,9 +35,9 @@ ReachedBy r Many = (g : ℕ) × (k : ℕ) × (g ≢ k) × r g × r k
 -- The cover tells what addresses get, however many bits they have, as long as no prefix has more: each gets what the
 -- cover allows for, and what the cover names some address gets.
 pub record IsCover (L : Table) (c : Cover) : Type 0 where
-  pub each : (n : ℕ) → Fits n L → (a : List Bool) → length a ≡ n → (x : Option ℕ) × Shows L a x × Within c x
-  pub passed : (n : ℕ) → Fits n L → c.passes ≡ true → SomeGets n L None
-  pub reached : (n : ℕ) → Fits n L → ReachedBy (λ g. SomeGets n L (Some g)) c.hops
+  pub each : (n : ℕ) → FitsWidth n L → (a : List Bool) → length a ≡ n → (x : Option ℕ) × ShowsHop L a x × Within c x
+  pub passed : (n : ℕ) → FitsWidth n L → c.passes ≡ true → SomeGets n L None
+  pub reached : (n : ℕ) → FitsWidth n L → ReachedBy (λ g. SomeGets n L (Some g)) c.hops
 
 -- the hops of two regions
 abbrev pub both : Hops → Hops → Hops

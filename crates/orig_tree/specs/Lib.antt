@@ -14,5 +14,5 @@ pub mod Within
 pub mod Undos
 pub mod Placed
 pub mod Steps
-pub mod Woven
+pub mod Merged
 pub mod Built

@@ -23,8 +23,8 @@ packed c (One h) = record { passes = c.passes; kind = Single; hop = h }
 packed c Many = record { passes = c.passes; kind = Mixed; hop = 0 }
 
 -- a hop with a cover
-abbrev pub slot_of : Option ℕ → Cover → Slot
-slot_of hop c = record { hop = hop; kept = packed c c.hops }
+abbrev pub cover_slot : Option ℕ → Cover → Slot
+cover_slot hop c = record { hop = hop; kept = packed c c.hops }
 
 -- the cover of a slot
 abbrev pub cover_in : Slot → Cover

@@ -1,7 +1,7 @@
 -- What is seen of a region of a tree.
 use Rattle.std.specs.Prelude.{◌≡◌, ℕ, suc, List, length, Bool, Option}
 use Rattle.table_model.specs.Table.{Table, lpm}
-use Rattle.orig_tree.specs.Arena.{Place, from_half, IfHalf, walks_at, IsTree}
+use Rattle.orig_tree.specs.Arena.{Owner, from_half, IfHalf, walks_at, IsTree}
 use Rattle.orig_tree.specs.Bests.{AreBest}
 use Rattle.orig_tree.specs.declared.node.Node.{Node}
 use Rattle.orig_tree.specs.declared.best.Best.{Best}
@@ -18,8 +18,8 @@ pub record Spot : Type 0 where
   pub hop : ℕ
 
 -- what the region's addresses get
-abbrev pub answers_in : Spot → List Bool → ℕ
-answers_in s a = lpm s.routes a s.hop
+abbrev pub spot_answers : Spot → List Bool → ℕ
+spot_answers s a = lpm s.routes a s.hop
 
 -- the region of a half that may be a node
 abbrev pub spot_at : List Node → Option ℕ → ℕ → ℕ → Spot
@@ -37,12 +37,12 @@ IsSpot cells kept half bits hop = IfHalf (λ j. AreBest (suc bits) cells kept (�
 
 -- the node there and those below it are in order
 abbrev pub IsRooted : List Node → Option ℕ → ℕ → Type 0
-IsRooted cells half bits = IfHalf (λ j. (name : ℕ → Place) × (p : List Bool) × IsTree (suc bits) cells name j p) half
+IsRooted cells half bits = IfHalf (λ j. (name : ℕ → Owner) × (p : List Bool) × IsTree (suc bits) cells name j p) half
 
 -- the routes or the entries
-abbrev pub rows_in : Label → Spot → Table
-rows_in Route s = s.routes
-rows_in Entry s = s.entries
+abbrev pub spot_rows : Label → Spot → Table
+spot_rows Route s = s.routes
+spot_rows Entry s = s.entries
 
 -- whatever the region inherits, each address of it gets the same
 abbrev pub EachFixed : ℕ → Table → Type 0

@@ -1,6 +1,6 @@
 -- What a change of a route costs: the sets that it computes.
 use Rattle.std.specs.Prelude.{ℕ, suc, List, [], ◌∷◌, length, Bool, Option, Some, None}
-use Rattle.orig_tree.specs.Arena.{node_at, half_place}
+use Rattle.orig_tree.specs.Arena.{cell_at, half_place}
 use Rattle.orig_tree.specs.declared.node.Node.{Node}
 
 -- how many nodes are made, or would be, for the path q to be a node, where f tells how many below a place
@@ -11,7 +11,7 @@ new_from f q (Some j) = f j
 -- the same from place i on
 unfoldable pub new_nodes : List Node → List Bool → ℕ → ℕ
 new_nodes cells [] i = 0
-new_nodes cells (b ∷ q) i = new_from (λ j. new_nodes cells q j) q (half_place (node_at cells i) b)
+new_nodes cells (b ∷ q) i = new_from (λ j. new_nodes cells q j) q (half_place (cell_at cells i) b)
 
 -- and from a half on, which may be no node
 abbrev pub new_behind : List Node → List Bool → Option ℕ → ℕ

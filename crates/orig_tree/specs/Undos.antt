@@ -7,7 +7,7 @@ use Rattle.table_model.specs.Table.{Table, lpm}
 use Rattle.table_model.specs.Entries.{of_table}
 use Rattle.orig_tree.specs.Edits.{edit}
 use Rattle.orig_tree.specs.Views.{InPlace}
-use Rattle.orig_tree.specs.Walk.{Allowed}
+use Rattle.orig_tree.specs.Walk.{CanEdit}
 use Rattle.orig_tree.specs.Arena.{whole}
 use Rattle.orig_tree.specs.Bests.{AreBest, back}
 use Rattle.orig_tree.specs.declared.node.Node.{Node}
@@ -24,14 +24,14 @@ routes_before None R = R
 routes_before (Some u) R = undone u R
 
 -- taken back, the change leaves the routes R, with what stands for all regions then
-pub record TakesBack (f : Family) (R : Table) (cells : List Node) (kept : ℕ → Best) (u : Undo) : Type 0 where
+pub record UndoesChange (f : Family) (R : Table) (cells : List Node) (kept : ℕ → Best) (u : Undo) : Type 0 where
   pub routes : undone u (whole f cells).routes ≡ R
   pub best : AreBest (suc (width f)) cells (back u.changes.items kept) (λ a. lpm R a 0) 0
   pub few : u.len ≤ width f
-  pub allowed : Allowed (bits_of u.len u.q) u.hop (whole f cells).nodes
+  pub allowed : CanEdit (bits_of u.len u.q) u.hop (whole f cells).nodes
 
 -- the last change, if it can be taken back
 abbrev pub CanUndo : Family → List Node → (ℕ → Best) → Option Undo → Type 0
 CanUndo f cells kept None = Unit {0}
 CanUndo f cells kept (Some u) =
-    TakesBack f (undone u (whole f cells).routes) cells kept u × InPlace (of_table f (undone u (whole f cells).routes))
+    UndoesChange f (undone u (whole f cells).routes) cells kept u × InPlace (of_table f (undone u (whole f cells).routes))

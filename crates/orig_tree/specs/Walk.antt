@@ -55,6 +55,6 @@ abbrev pub AreMadeTo : List Bool → List (List Bool) → List (List Bool) → T
 AreMadeTo p old new = (q : List Bool) → has_node q new ≡ true → (has_node q old ≡ true) ⊎ (begins q p ≡ true)
 
 -- an entry can be set where there is a node, and taken away everywhere
-abbrev pub Allowed : List Bool → Option ℕ → List (List Bool) → Type 0
-Allowed p None nodes = Unit {0}
-Allowed p (Some h) nodes = has_node p nodes ≡ true
+abbrev pub CanEdit : List Bool → Option ℕ → List (List Bool) → Type 0
+CanEdit p None nodes = Unit {0}
+CanEdit p (Some h) nodes = has_node p nodes ≡ true

@@ -5,9 +5,9 @@ ghost use Rattle.table_model.specs.Bits.{bits_of};
 ghost use Rattle.table_model.specs.Table.{lpm};
 ghost use Rattle.table_model.specs.Sets.{side};
 ghost use Rattle.orig_tree.specs.Edits.{edit, put};
-ghost use Rattle.orig_tree.specs.Bests.{Stands, best_one, best_in, best_behind, put_at, changed, back};
+ghost use Rattle.orig_tree.specs.Bests.{IsRegionBest, best_one, best_in, best_behind, put_at, changed, back};
 
-use hop_sets::HopSet;
+use fib_addr::HopSet;
 use std::alloc::{AllocError, Global};
 use std::mem;
 
@@ -64,8 +64,8 @@ impl Best {
 
     /// What a region keeps, from what its halves keep.
     pub(crate) fn joined(alloc: Global, low: &Best, high: &Best) -> Result<Best, AllocError>
-        ensures { IfOk result (λ x. (d : ℕ) (f : List Bool → ℕ) → Stands d (side false f) low.now
-            → Stands d (side true f) high.now → Stands (suc d) f x) }
+        ensures { IfOk result (λ x. (d : ℕ) (f : List Bool → ℕ) → IsRegionBest d (side false f) low.now
+            → IsRegionBest d (side true f) high.now → IsRegionBest (suc d) f x) }
     {
         let joint = HopSet::joint(alloc, &low.hops, &high.hops)?;
         let k = joint_k(low.k, high.k, joint.apart)?;
@@ -92,7 +92,7 @@ impl Best {
 
 /// What a region keeps that inherits a hop and has no route, but that of a path of `left` bits below it, if it is given.
 pub(crate) fn fresh(left: u8, inherited: u16, set: Option<u16>) -> Best
-    ensures { (d q : ℕ) → left ≤ d → Stands d (λ a. lpm (edit (bits_of left q) set []) a inherited)
+    ensures { (d q : ℕ) → left ≤ d → IsRegionBest d (λ a. lpm (edit (bits_of left q) set []) a inherited)
         result }
 {
     match set {
@@ -109,7 +109,7 @@ pub(crate) fn fresh(left: u8, inherited: u16, set: Option<u16>) -> Best
 /// The same, where the route is given and has another hop.
 fn beside(left: u8, inherited: u16, hop: u16) -> Best
     requires { hop ≢ inherited }
-    ensures { (d q : ℕ) → left ≤ d → Stands d (λ a. lpm (put (bits_of left q) hop []) a inherited)
+    ensures { (d q : ℕ) → left ≤ d → IsRegionBest d (λ a. lpm (put (bits_of left q) hop []) a inherited)
         result }
 {
     if left == 0 {
@@ -157,9 +157,9 @@ pub(crate) fn join_kept(
     hop: u16,
 ) -> Result<Best, AllocError>
     ensures { IfOk result (λ x. (d : ℕ) (f : List Bool → ℕ)
-        → Stands d (side false f) (best_behind (best_in bests.now) low (best_one hop))
-        → Stands d (side true f) (best_behind (best_in bests.now) high (best_one hop))
-        → Stands (suc d) f x) }
+        → IsRegionBest d (side false f) (best_behind (best_in bests.now) low (best_one hop))
+        → IsRegionBest d (side true f) (best_behind (best_in bests.now) high (best_one hop))
+        → IsRegionBest (suc d) f x) }
 {
     let none = Best::one(0);
     let bare = Best::one(hop);

@@ -9,15 +9,15 @@ ghost use Rattle.table_model.specs.Regions.{lift};
 ghost use Rattle.table_model.specs.Sets.{side};
 ghost use Rattle.table_model.specs.Halves.{half_at};
 ghost use Rattle.fib_addr.specs.Views.{entry_as, prefix_as};
-ghost use Rattle.orig_tree.specs.Arena.{blank, bare_cover_is, cells_of, cover_at, link, retold, IsArena};
-ghost use Rattle.orig_tree.specs.Bests.{Stands, best_one, best_in, best_behind, KeepsBest};
-ghost use Rattle.orig_tree.specs.Woven.{Lays};
+ghost use Rattle.orig_tree.specs.Arena.{blank_cell, bare_cover_is, cells_of, cover_at, link, retold, IsArena};
+ghost use Rattle.orig_tree.specs.Bests.{IsRegionBest, best_one, best_in, best_behind, KeepsBest};
+ghost use Rattle.orig_tree.specs.Merged.{Lays};
 ghost use Rattle.orig_tree.specs.Built.{with_halves, Builds, BuildsHalf};
 ghost use Rattle.orig_tree.specs.declared.node.Label.TheVariants.{Route};
 
 use crate::best::{Best, Bests, exchange, join_kept};
+use crate::merge::next_half;
 use crate::node::{Label, MOST, Node, Nodes, leaf, put, retell};
-use crate::weave::next_half;
 use fib_addr::{Entry, Family, Prefix};
 use std::alloc::{AllocError, Global};
 
@@ -45,7 +45,7 @@ fn take_place(nodes: &mut Nodes, bests: &mut Bests) -> Result<u32, AllocError>
     ensures same { OnOk result (vec_len nodes.new.halves ≡ vec_len bests.new.halves) }
     ensures free { nodes.new.free ≡ nodes.old.free }
     ensures place { IfOk result (λ j. j ≡ length (cells_of nodes.old)) }
-    ensures node { OnOk result (cells_of nodes.new ≡ cells_of nodes.old ++ (blank ∷ [])) }
+    ensures node { OnOk result (cells_of nodes.new ≡ cells_of nodes.old ++ (blank_cell ∷ [])) }
     ensures kept { (j : ℕ) → best_in bests.new j ≡ best_in bests.old j }
 {
     if nodes.halves.len() >= MOST {
@@ -74,7 +74,7 @@ fn fill(nodes: &mut Nodes, bests: &mut Bests, place: usize, node: Node, mut best
 fn put_alone(nodes: &mut Nodes, bests: &mut Bests, place: usize, own: Option<u16>, hop: u16)
     requires place { place ≤ vec_len bests.old.halves }
     ensures node { cells_of nodes.new ≡ slice_set (cells_of nodes.old) place (retold Route own
-        bare_cover_is bare_cover_is blank) }
+        bare_cover_is bare_cover_is blank_cell) }
     ensures free { nodes.new.free ≡ nodes.old.free }
     ensures len { vec_len nodes.new.halves ≡ vec_len nodes.old.halves }
     ensures places { vec_len bests.new.halves ≡ vec_len bests.old.halves }
@@ -105,9 +105,9 @@ fn put_over(
     ensures len { vec_len nodes.new.halves ≡ vec_len nodes.old.halves }
     ensures places { vec_len bests.new.halves ≡ vec_len bests.old.halves }
     ensures best { OnOk result ((d : ℕ) (f : List Bool → ℕ)
-        → Stands d (side false f) (best_behind (best_in bests.old) (link low) (best_one hop))
-        → Stands d (side true f) (best_behind (best_in bests.old) (link high) (best_one hop))
-        → Stands (suc d) f (best_in bests.new place)) }
+        → IsRegionBest d (side false f) (best_behind (best_in bests.old) (link low) (best_one hop))
+        → IsRegionBest d (side true f) (best_behind (best_in bests.old) (link high) (best_one hop))
+        → IsRegionBest (suc d) f (best_in bests.new place)) }
     ensures others { OnOk result ((j : ℕ) → j ≢ place → best_in bests.new j ≡ best_in bests.old j) }
 {
     let halves = Node {
@@ -222,7 +222,7 @@ pub(crate) fn build_all<'a>(
     routes: &'a [Entry],
 ) -> Result<&'a [Entry], AllocError>
     requires arena { IsArena family (cells_of nodes.old) nodes.old.free }
-    requires bare { cells_of nodes.old ≡ blank ∷ [] }
+    requires bare { cells_of nodes.old ≡ blank_cell ∷ [] }
     requires same { vec_len nodes.old.halves ≡ vec_len bests.old.halves }
     ensures same { OnOk result (vec_len nodes.new.halves ≡ vec_len bests.new.halves) }
     ensures lays { IfOk result (λ rest. Lays family Route (cells_of nodes.old) (cells_of nodes.new)

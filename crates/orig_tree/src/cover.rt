@@ -141,11 +141,11 @@ impl Cover {
 
 impl Slot {
     ghost use Rattle.std.specs.Prelude.{◌≡◌, Option};
-    ghost use Rattle.orig_tree.specs.Packed.{slot_of, bare_slot};
+    ghost use Rattle.orig_tree.specs.Packed.{cover_slot, bare_slot};
 
     /// A hop with a cover.
     pub(crate) fn over(hop: Option<u16>, cover: Cover) -> Slot
-        ensures { result ≡ slot_of hop cover }
+        ensures { result ≡ cover_slot hop cover }
     {
         let kept = match cover.hops {
             Hops::Zero => Kept {

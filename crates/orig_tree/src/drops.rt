@@ -3,7 +3,7 @@
 ghost use Rattle.std.specs.Prelude.{◌≡◌, ◌≤◌, ◌+◌, ◌||◌, ℕ, List, Bool, [], vec_len, slice_set, cond};
 ghost use Rattle.std.specs.Option.{is_some};
 ghost use Rattle.table_model.specs.Bits.{bits_of};
-ghost use Rattle.orig_tree.specs.Arena.{cells_of, Place, link, IsTree, IsHeld, IfHalf};
+ghost use Rattle.orig_tree.specs.Arena.{cells_of, Owner, link, IsTree, HasSpares, IfHalf};
 ghost use Rattle.orig_tree.specs.Drops.{with_halves, spare_node, NodeTrimmed, HalfTrimmed};
 
 use crate::node::{Node, Nodes, leaf, put, read};
@@ -77,8 +77,8 @@ fn any(low: bool, high: bool, own: bool) -> bool
 /// changes no table.
 #[cycle(prune)]
 fn prune(nodes: &mut Nodes, i: usize, depth: u8) -> bool
-    ensures trimmed { (d : ℕ) (name : ℕ → Place) (spares : ℕ) (p : List Bool) → d ≤ depth + 1
-        → IsTree d (cells_of nodes.old) name i p → IsHeld (cells_of nodes.old) nodes.old.free name
+    ensures trimmed { (d : ℕ) (name : ℕ → Owner) (spares : ℕ) (p : List Bool) → d ≤ depth + 1
+        → IsTree d (cells_of nodes.old) name i p → HasSpares (cells_of nodes.old) nodes.old.free name
         spares → NodeTrimmed d [] (cells_of nodes.old) (cells_of nodes.new) nodes.new.free name i p
         result }
     ensures len { vec_len nodes.new.halves ≡ vec_len nodes.old.halves }
@@ -93,9 +93,9 @@ fn prune(nodes: &mut Nodes, i: usize, depth: u8) -> bool
 /// The same of a half, where it is a node; its own is given back where it has no label at or below itself.
 #[cycle(prune)]
 fn prune_half(nodes: &mut Nodes, half: u32, depth: u8) -> bool
-    ensures trimmed { (d : ℕ) (name : ℕ → Place) (spares : ℕ) (p : List Bool) → d ≤ depth
+    ensures trimmed { (d : ℕ) (name : ℕ → Owner) (spares : ℕ) (p : List Bool) → d ≤ depth
         → IfHalf (λ j. IsTree d (cells_of nodes.old) name j p) (link half)
-        → IsHeld (cells_of nodes.old) nodes.old.free name spares
+        → HasSpares (cells_of nodes.old) nodes.old.free name spares
         → HalfTrimmed d [] (cells_of nodes.old) (cells_of nodes.new) nodes.new.free name (link half) p
         result }
     ensures len { vec_len nodes.new.halves ≡ vec_len nodes.old.halves }
@@ -118,8 +118,8 @@ fn prune_half(nodes: &mut Nodes, half: u32, depth: u8) -> bool
 #[cycle(trim)]
 pub(crate) fn trim(nodes: &mut Nodes, i: usize, q: u128, left: u8, depth: u8) -> bool
     requires { left ≤ 128 }
-    ensures trimmed { (d : ℕ) (name : ℕ → Place) (spares : ℕ) (p : List Bool) → d ≤ depth + 1
-        → IsTree d (cells_of nodes.old) name i p → IsHeld (cells_of nodes.old) nodes.old.free name
+    ensures trimmed { (d : ℕ) (name : ℕ → Owner) (spares : ℕ) (p : List Bool) → d ≤ depth + 1
+        → IsTree d (cells_of nodes.old) name i p → HasSpares (cells_of nodes.old) nodes.old.free name
         spares → NodeTrimmed d (bits_of left q) (cells_of nodes.old) (cells_of nodes.new)
         nodes.new.free name i p result }
     ensures len { vec_len nodes.new.halves ≡ vec_len nodes.old.halves }
@@ -143,9 +143,9 @@ pub(crate) fn trim(nodes: &mut Nodes, i: usize, q: u128, left: u8, depth: u8) ->
 #[cycle(trim)]
 fn trim_half(nodes: &mut Nodes, half: u32, q: u128, left: u8, depth: u8) -> bool
     requires { left ≤ 128 }
-    ensures trimmed { (d : ℕ) (name : ℕ → Place) (spares : ℕ) (p : List Bool) → d ≤ depth
+    ensures trimmed { (d : ℕ) (name : ℕ → Owner) (spares : ℕ) (p : List Bool) → d ≤ depth
         → IfHalf (λ j. IsTree d (cells_of nodes.old) name j p) (link half)
-        → IsHeld (cells_of nodes.old) nodes.old.free name spares
+        → HasSpares (cells_of nodes.old) nodes.old.free name spares
         → HalfTrimmed d (bits_of left q) (cells_of nodes.old) (cells_of nodes.new) nodes.new.free
         name (link half) p result }
     ensures len { vec_len nodes.new.halves ≡ vec_len nodes.old.halves }

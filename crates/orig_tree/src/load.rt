@@ -10,16 +10,16 @@ ghost use Rattle.orig_tree.specs.Views.{InPlace};
 ghost use Rattle.table_model.specs.Address.{same_family};
 ghost use Rattle.table_model.specs.Entries.{Entries, of_table};
 ghost use Rattle.fib_addr.specs.Views.{entry_as};
-ghost use Rattle.orig_tree.specs.Arena.{blank, cells_of, Place, IfHalf, IsTree, walks_at, from_half, whole, IsArena};
+ghost use Rattle.orig_tree.specs.Arena.{blank_cell, cells_of, Owner, IfHalf, IsTree, walks_at, from_half, whole, IsArena};
 ghost use Rattle.orig_tree.specs.Bests.{best_one, best_in, best_behind, KeepsBest, IsMended, HalfMended};
-ghost use Rattle.orig_tree.specs.Woven.{own_of, Lays};
+ghost use Rattle.orig_tree.specs.Merged.{own_of, Lays};
 ghost use Rattle.orig_tree.specs.declared.node.Label.TheVariants.{Route};
 
 use crate::best::{Best, Bests, exchange, join_kept};
 use crate::build::build_all;
+use crate::merge::merge;
 use crate::node::{Label, Nodes, read, set_label};
 use crate::path::path_bits;
-use crate::weave::weave;
 use fib_addr::{Entry, Family, Prefix};
 use std::alloc::{AllocError, Global};
 
@@ -48,7 +48,7 @@ fn skip_others<'a>(family: Family, entries: &'a [Entry]) -> &'a [Entry]
 }
 
 /// Sets a label of an entry's prefix, if the entry is of the family.
-fn lay_one(
+fn insert_one(
     family: Family,
     nodes: &mut Nodes,
     bests: &mut Bests,
@@ -79,7 +79,7 @@ fn lay_one(
 /// # Errors
 ///
 /// No memory, which comes too where there would be 2^31 nodes or more; then a front of the entries may be set.
-pub(crate) fn lay_all(
+pub(crate) fn insert_all(
     family: Family,
     nodes: &mut Nodes,
     bests: &mut Bests,
@@ -96,9 +96,9 @@ pub(crate) fn lay_all(
     let root = Prefix::whole(family);
     let mut left = entries;
     while let [first, rest @ ..] = left {
-        lay_one(family, nodes, bests, label, first)?;
+        insert_one(family, nodes, bests, label, first)?;
         left = rest;
-        weave(nodes, bests, 0, &root, 0, label, &mut left)?;
+        merge(nodes, bests, 0, &root, 0, label, &mut left)?;
     }
     Ok(())
 }
@@ -115,7 +115,7 @@ pub(crate) fn settle(
 ) -> Result<(), AllocError>
     requires long { vec_len nodes.now.halves ≤ vec_len bests.old.halves }
     ensures long { vec_len bests.new.halves ≡ vec_len bests.old.halves }
-    ensures best { OnOk result ((name : ℕ → Place) (p : List Bool)
+    ensures best { OnOk result ((name : ℕ → Owner) (p : List Bool)
         → IsTree (suc depth) (cells_of nodes.now) name i p → IsMended depth (cells_of nodes.now) name i
         p (λ a. lpm (walks_at (suc depth) (cells_of nodes.now) i).routes a inherited) (best_in
         bests.old) (best_in bests.new) (best_in bests.new i)) }
@@ -148,7 +148,7 @@ fn settle_half(
 ) -> Result<(), AllocError>
     requires long { vec_len nodes.now.halves ≤ vec_len bests.old.halves }
     ensures long { vec_len bests.new.halves ≡ vec_len bests.old.halves }
-    ensures best { OnOk result ((name : ℕ → Place) (p : List Bool)
+    ensures best { OnOk result ((name : ℕ → Owner) (p : List Bool)
         → IfHalf (λ j. IsTree (suc depth) (cells_of nodes.now) name j p) half
         → HalfMended depth (cells_of nodes.now) name half p (λ a. lpm (from_half (walks_at (suc depth)
         (cells_of nodes.now)) half).routes a inherited) (best_in bests.old) (best_in bests.new)
@@ -192,7 +192,7 @@ pub(crate) fn load_all(
     routes: &[Entry],
 ) -> Result<(), AllocError>
     requires arena { IsArena family (cells_of nodes.old) nodes.old.free }
-    requires bare { cells_of nodes.old ≡ blank ∷ [] }
+    requires bare { cells_of nodes.old ≡ blank_cell ∷ [] }
     requires none { vec_len bests.old.halves ≡ 0 }
     ensures long { OnOk result (vec_len nodes.new.halves ≤ vec_len bests.new.halves) }
     ensures lays { OnOk result (Lays family Route (cells_of nodes.old) (cells_of nodes.new)
@@ -205,7 +205,7 @@ pub(crate) fn load_all(
     if left.is_empty() {
         return Ok(());
     }
-    lay_all(family, nodes, bests, Label::Route, left)?;
+    insert_all(family, nodes, bests, Label::Route, left)?;
     settle_all(alloc, family, nodes, bests)?;
     Ok(())
 }

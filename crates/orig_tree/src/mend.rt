@@ -11,10 +11,10 @@ ghost use Rattle.table_model.specs.Table.{lpm};
 ghost use Rattle.table_model.specs.Sets.{side};
 ghost use Rattle.orig_tree.specs.Edits.{edit};
 ghost use Rattle.orig_tree.specs.Packed.{cover_in};
-ghost use Rattle.orig_tree.specs.Arena.{cells_of, Place, IfHalf, IsTree, walks_at, from_half};
+ghost use Rattle.orig_tree.specs.Arena.{cells_of, Owner, IfHalf, IsTree, walks_at, from_half};
 ghost use Rattle.orig_tree.specs.Within.{nodes_in};
 ghost use Rattle.orig_tree.specs.Steps.{new_nodes, new_behind};
-ghost use Rattle.orig_tree.specs.Bests.{Stands, best_one, best_in, best_behind, kept_or, changed, under, AreBest, Untouched, IsMended, HalfMended};
+ghost use Rattle.orig_tree.specs.Bests.{IsRegionBest, best_one, best_in, best_behind, kept_or, changed, under, AreBest, Untouched, IsMended, HalfMended};
 
 use crate::best::{Best, Bests, Change, best_at, fresh};
 use crate::counter::Counter;
@@ -44,8 +44,8 @@ fn half_best<'a>(bests: &'a Bests, half: Option<usize>, none: &'a Best, bare: &'
 
 /// What a region keeps, from what the half of a bit keeps and the other half.
 fn join_sides(alloc: Global, bit: bool, near: &Best, far: &Best) -> Result<Best, AllocError>
-    ensures { IfOk result (λ x. (d : ℕ) (f : List Bool → ℕ) → Stands d (side bit f) near.now
-        → Stands d (side (not bit) f) far.now → Stands (suc d) f x) }
+    ensures { IfOk result (λ x. (d : ℕ) (f : List Bool → ℕ) → IsRegionBest d (side bit f) near.now
+        → IsRegionBest d (side (not bit) f) far.now → IsRegionBest (suc d) f x) }
 {
     if bit {
         Best::joined(alloc, far, near)
@@ -66,7 +66,7 @@ fn mend<C: Counter>(
     out: &mut Vec<Change>,
     steps: &mut C,
 ) -> Result<Best, AllocError>
-    ensures best { IfOk result (λ x. (name : ℕ → Place) (p : List Bool) (h : ℕ)
+    ensures best { IfOk result (λ x. (name : ℕ → Owner) (p : List Bool) (h : ℕ)
         → IsTree (suc depth) (cells_of nodes.now) name i p
         → AreBest (suc depth) (cells_of nodes.now) (best_in bests.now) (λ a. lpm (walks_at (suc depth)
         (cells_of nodes.now) i).routes a h) i
@@ -130,7 +130,7 @@ fn mend_half<C: Counter>(
     out: &mut Vec<Change>,
     steps: &mut C,
 ) -> Result<Best, AllocError>
-    ensures best { IfOk result (λ x. (name : ℕ → Place) (p : List Bool) (h : ℕ)
+    ensures best { IfOk result (λ x. (name : ℕ → Owner) (p : List Bool) (h : ℕ)
         → IfHalf (λ j. IsTree (suc depth) (cells_of nodes.now) name j p) half
         → IfHalf (λ j. AreBest (suc depth) (cells_of nodes.now) (best_in bests.now) (λ a. lpm (walks_at
         (suc depth) (cells_of nodes.now) j).routes a h) j) half
@@ -172,7 +172,7 @@ pub(crate) fn plan<C: Counter>(
 ) -> Result<Option<Best>, AllocError>
     requires few { left ≤ depth }
     requires most { depth ≤ 128 }
-    ensures best { IfOk result (λ x. (name : ℕ → Place) (p : List Bool)
+    ensures best { IfOk result (λ x. (name : ℕ → Owner) (p : List Bool)
         → IsTree (suc depth) (cells_of nodes.now) name i p
         → AreBest (suc depth) (cells_of nodes.now) (best_in bests.now) (λ a. lpm (walks_at (suc depth)
         (cells_of nodes.now) i).routes a inherited) i
@@ -246,7 +246,7 @@ fn plan_half<C: Counter>(
 ) -> Result<Option<Best>, AllocError>
     requires few { left ≤ depth }
     requires most { depth ≤ 128 }
-    ensures best { IfOk result (λ x. (name : ℕ → Place) (p : List Bool)
+    ensures best { IfOk result (λ x. (name : ℕ → Owner) (p : List Bool)
         → IfHalf (λ j. IsTree (suc depth) (cells_of nodes.now) name j p) half
         → IfHalf (λ j. AreBest (suc depth) (cells_of nodes.now) (best_in bests.now) (λ a. lpm (walks_at
         (suc depth) (cells_of nodes.now) j).routes a inherited) j) half

@@ -9,11 +9,11 @@ ghost use Rattle.table_model.specs.Width.{width};
 ghost use Rattle.table_model.specs.Table.{lpm, root, half, here};
 ghost use Rattle.table_model.specs.Regions.{above, lift};
 ghost use Rattle.fib_addr.specs.Views.{prefix_as};
-ghost use Rattle.orig_tree.specs.Walk.{rows_of, edited, Allowed, labelled, has_node};
+ghost use Rattle.orig_tree.specs.Walk.{rows_of, edited, CanEdit, labelled, has_node};
 ghost use Rattle.table_model.specs.Entries.{of_table};
-ghost use Rattle.orig_tree.specs.Views.{Fits};
+ghost use Rattle.orig_tree.specs.Views.{FitsWidth};
 ghost use Rattle.orig_tree.specs.Uniform.{IsUniform};
-ghost use Rattle.orig_tree.specs.Arena.{cells_of, Place, blank, node_at, half_place, walks_at, IsTree, IsSet, retold, cover_at, cover_of, from_half, IsHeld, link, GivesPlace, IsSplit, HasRoom, HalvesStay, with_half};
+ghost use Rattle.orig_tree.specs.Arena.{cells_of, Owner, blank_cell, cell_at, half_place, walks_at, IsTree, IsSet, retold, cover_at, cover_of, from_half, HasSpares, link, GivesPlace, IsSplit, MakesRoom, HalvesStay, with_half};
 ghost use Rattle.orig_tree.specs.Bests.{best_in, AreBest, IsGrown, laid};
 ghost use Rattle.orig_tree.specs.Steps.{new_nodes};
 ghost use Rattle.orig_tree.specs.Placed.{Climbs, IsPlaced, route_set};
@@ -21,7 +21,7 @@ ghost use Rattle.orig_tree.specs.Placed.{Climbs, IsPlaced, route_set};
 use crate::best::{Best, Bests, exchange, fresh, lengthen};
 use crate::counter::{Counter, Uncounted};
 use crate::cover::{Cover, Slot};
-use fib_addr::{EntrySink, Prefix, bit_at, hand_entry};
+use fib_addr::{EntrySink, Prefix, bit_at, emit_entry};
 use std::alloc::{AllocError, Global};
 
 /// Which of a node's labels.
@@ -100,7 +100,7 @@ fn linked(half: u32) -> Option<usize>
 
 /// A node with no labels and no halves.
 pub(crate) fn leaf() -> Node
-    ensures { result ≡ blank }
+    ensures { result ≡ blank_cell }
 {
     Node {
         route: Slot::bare(),
@@ -112,7 +112,7 @@ pub(crate) fn leaf() -> Node
 
 /// The node at a place.
 pub(crate) fn read(nodes: &Nodes, i: usize) -> Node
-    ensures { result ≡ node_at (cells_of nodes.now) i }
+    ensures { result ≡ cell_at (cells_of nodes.now) i }
 {
     if i == 0 {
         return nodes.root;
@@ -222,7 +222,13 @@ pub(crate) fn retell(nodes: &Nodes, node: Node, label: Label, hop: Option<u16>) 
 
 /// Puts a node at its place with one of its labels set and its cover told from those of the halves, and tells whether that is
 /// another than it was.
-pub(crate) fn renew(nodes: &mut Nodes, i: usize, node: Node, label: Label, hop: Option<u16>) -> bool
+pub(crate) fn update_node(
+    nodes: &mut Nodes,
+    i: usize,
+    node: Node,
+    label: Label,
+    hop: Option<u16>,
+) -> bool
     ensures cells { cells_of nodes.new ≡ slice_set (cells_of nodes.old) i (retold label hop (cover_at
         (cells_of nodes.old) label (half_place node false)) (cover_at (cells_of nodes.old) label
         (half_place node true)) node) }
@@ -251,18 +257,18 @@ pub(crate) fn assign(
     ensures len { vec_len nodes.new.halves ≡ vec_len nodes.old.halves }
     ensures halves { HalvesStay (cells_of nodes.old) (cells_of nodes.new) }
     ensures free { nodes.new.free ≡ nodes.old.free }
-    ensures set { (d : ℕ) (name : ℕ → Place) (p : List Bool) → left < d
-        → IsTree d (cells_of nodes.old) name i p → Allowed (bits_of left q) hop (walks_at d
+    ensures set { (d : ℕ) (name : ℕ → Owner) (p : List Bool) → left < d
+        → IsTree d (cells_of nodes.old) name i p → CanEdit (bits_of left q) hop (walks_at d
         (cells_of nodes.old) i).nodes → IsSet d label (bits_of left q) hop (cells_of nodes.old)
         (cells_of nodes.new) name i p }
-    ensures same { (d : ℕ) (name : ℕ → Place) (p : List Bool) → left < d
-        → IsTree d (cells_of nodes.old) name i p → Allowed (bits_of left q) hop (walks_at d
-        (cells_of nodes.old) i).nodes → result ≡ false → cover_of label (node_at (cells_of nodes.new)
-        i) ≡ cover_of label (node_at (cells_of nodes.old) i) }
+    ensures same { (d : ℕ) (name : ℕ → Owner) (p : List Bool) → left < d
+        → IsTree d (cells_of nodes.old) name i p → CanEdit (bits_of left q) hop (walks_at d
+        (cells_of nodes.old) i).nodes → result ≡ false → cover_of label (cell_at (cells_of nodes.new)
+        i) ≡ cover_of label (cell_at (cells_of nodes.old) i) }
 {
     let node = read(nodes, i);
     if left == 0 {
-        return renew(nodes, i, node, label, hop);
+        return update_node(nodes, i, node, label, hop);
     }
     let at = left - 1;
     let own = node.hop(label);
@@ -271,7 +277,7 @@ pub(crate) fn assign(
         Some(j) => {
             let changed = assign(nodes, j, label, q, at, hop);
             if changed {
-                return renew(nodes, i, node, label, own);
+                return update_node(nodes, i, node, label, own);
             }
             false
         }
@@ -288,8 +294,8 @@ pub(crate) fn uniform(
     inherited: u16,
 ) -> Option<u16>
     requires { left ≤ 128 }
-    ensures { (d : ℕ) (name : ℕ → Place) (p : List Bool) (n : ℕ) → left < d
-        → IsTree d (cells_of nodes.now) name i p → left ≤ n → Fits n (rows_of label (walks_at d
+    ensures { (d : ℕ) (name : ℕ → Owner) (p : List Bool) (n : ℕ) → left < d
+        → IsTree d (cells_of nodes.now) name i p → left ≤ n → FitsWidth n (rows_of label (walks_at d
         (cells_of nodes.now) i)) → IsUniform n (rows_of label (walks_at d (cells_of nodes.now) i))
         inherited (bits_of left q) result }
 {
@@ -317,12 +323,12 @@ pub(crate) fn tell<S: EntrySink>(
     requires { S.ready out.old }
     ensures ready { OnOk result (S.ready out.new) }
     ensures takes { (d : ℕ) → width prefix.now.family - prefix.now.len < d
-        → Fits (width prefix.now.family - prefix.now.len) (rows_of label (walks_at d (cells_of nodes.now)
+        → FitsWidth (width prefix.now.family - prefix.now.len) (rows_of label (walks_at d (cells_of nodes.now)
         i)) → OnOk result (S.takes out.old (of_table prefix.now.family (lift (prefix_as prefix.now).bits
         (rows_of label (walks_at d (cells_of nodes.now) i)))) out.new) }
 {
     let node = read(nodes, i);
-    hand_entry(prefix, node.hop(label), out)?;
+    emit_entry(prefix, node.hop(label), out)?;
     if prefix.len == prefix.family.width() {
         return Ok(());
     }
@@ -345,7 +351,7 @@ fn tell_half<S: EntrySink>(
     requires ready { S.ready out.old }
     ensures ready { OnOk result (S.ready out.new) }
     ensures takes { (d : ℕ) → width prefix.now.family - prefix.now.len ≤ d
-        → Fits (width prefix.now.family - prefix.now.len - 1) (rows_of label (from_half (walks_at d
+        → FitsWidth (width prefix.now.family - prefix.now.len - 1) (rows_of label (from_half (walks_at d
         (cells_of nodes.now)) half)) → OnOk result (S.takes out.old (of_table prefix.now.family
         (lift (half_at bit (prefix_as prefix.now)).bits (rows_of label (from_half (walks_at d (cells_of
         nodes.now)) half)))) out.new) }
@@ -378,8 +384,8 @@ fn take(nodes: &mut Nodes) -> u32
     requires few { vec_len nodes.old.halves + 1 < 2 ^ 32 }
     ensures len { vec_len nodes.new.halves ≤ vec_len nodes.old.halves + 1 }
     ensures capacity { vec_capacity nodes.new.halves ≡ vec_capacity nodes.old.halves }
-    ensures gives { (name : ℕ → Place) (n : ℕ) (r : List Bool)
-        → IsHeld (cells_of nodes.old) nodes.old.free name n → GivesPlace r (cells_of nodes.old)
+    ensures gives { (name : ℕ → Owner) (n : ℕ) (r : List Bool)
+        → HasSpares (cells_of nodes.old) nodes.old.free name n → GivesPlace r (cells_of nodes.old)
         (cells_of nodes.new) nodes.new.free name result }
 {
     let spare = nodes.free;
@@ -398,9 +404,9 @@ pub(crate) fn split(nodes: &mut Nodes, i: usize, node: Node, bit: bool) -> usize
     requires few { vec_len nodes.old.halves + 1 < 2 ^ 32 }
     ensures len { vec_len nodes.new.halves ≤ vec_len nodes.old.halves + 1 }
     ensures capacity { vec_capacity nodes.new.halves ≡ vec_capacity nodes.old.halves }
-    ensures split { (d : ℕ) (name : ℕ → Place) (n : ℕ) (p : List Bool) → node
-        ≡ node_at (cells_of nodes.old) i → half_place node bit ≡ None → 1 < d
-        → IsTree d (cells_of nodes.old) name i p → IsHeld (cells_of nodes.old) nodes.old.free name n
+    ensures split { (d : ℕ) (name : ℕ → Owner) (n : ℕ) (p : List Bool) → node
+        ≡ cell_at (cells_of nodes.old) i → half_place node bit ≡ None → 1 < d
+        → IsTree d (cells_of nodes.old) name i p → HasSpares (cells_of nodes.old) nodes.old.free name n
         → IsSplit d bit (cells_of nodes.old) (cells_of nodes.new) nodes.new.free name i p result }
 {
     let at = take(nodes);
@@ -437,12 +443,12 @@ pub(crate) fn grow(
     requires few { vec_len nodes.old.halves + left < 2 ^ 32 }
     requires long { vec_len nodes.old.halves + left ≤ vec_len bests.old.halves }
     ensures long { vec_len nodes.new.halves ≤ vec_len bests.new.halves }
-    ensures nodes { (d : ℕ) (name : ℕ → Place) (n : ℕ) (p : List Bool) → left < d
-        → IsTree d (cells_of nodes.old) name i p → IsHeld (cells_of nodes.old) nodes.old.free name n
-        → HasRoom d (bits_of left q) (cells_of nodes.old) (cells_of nodes.new) nodes.new.free name i
+    ensures nodes { (d : ℕ) (name : ℕ → Owner) (n : ℕ) (p : List Bool) → left < d
+        → IsTree d (cells_of nodes.old) name i p → HasSpares (cells_of nodes.old) nodes.old.free name n
+        → MakesRoom d (bits_of left q) (cells_of nodes.old) (cells_of nodes.new) nodes.new.free name i
         p }
-    ensures best { (d : ℕ) (name : ℕ → Place) (n : ℕ) (p : List Bool) → left < d
-        → IsTree d (cells_of nodes.old) name i p → IsHeld (cells_of nodes.old) nodes.old.free name n
+    ensures best { (d : ℕ) (name : ℕ → Owner) (n : ℕ) (p : List Bool) → left < d
+        → IsTree d (cells_of nodes.old) name i p → HasSpares (cells_of nodes.old) nodes.old.free name n
         → AreBest d (cells_of nodes.old) (best_in bests.old) (λ a. lpm (walks_at d (cells_of nodes.old)
         i).routes a inherited) i → IsGrown d (cells_of nodes.new) name i p (λ a. lpm (walks_at d
         (cells_of nodes.old) i).routes a inherited) (best_in bests.old) (best_in bests.new) }
@@ -475,7 +481,7 @@ pub(crate) fn climb(nodes: &mut Nodes, i: usize, label: Label, changed: bool) ->
         return false;
     }
     let node = read(nodes, i);
-    renew(nodes, i, node, label, node.hop(label))
+    update_node(nodes, i, node, label, node.hop(label))
 }
 
 /// Sets the hop of one of a path's labels, below a node that inherits the hop from the routes, and makes nodes down to the path:
@@ -497,8 +503,8 @@ pub(crate) fn grow_label<C: Counter>(
     requires few { vec_len nodes.old.halves + left < 2 ^ 32 }
     requires long { vec_len nodes.old.halves + left ≤ vec_len bests.old.halves }
     ensures long { vec_len nodes.new.halves ≤ vec_len bests.new.halves }
-    ensures made { (d : ℕ) (name : ℕ → Place) (n : ℕ) (p : List Bool) → left < d
-        → IsTree d (cells_of nodes.old) name i p → IsHeld (cells_of nodes.old) nodes.old.free name n
+    ensures made { (d : ℕ) (name : ℕ → Owner) (n : ℕ) (p : List Bool) → left < d
+        → IsTree d (cells_of nodes.old) name i p → HasSpares (cells_of nodes.old) nodes.old.free name n
         → IsPlaced d label (bits_of left q) hop (cells_of nodes.old) (cells_of nodes.new)
         nodes.new.free name i p (λ a. lpm (laid (route_set label hop) (bits_of left q) (walks_at d
         (cells_of nodes.old) i).routes) a inherited) (best_in bests.old) (best_in bests.new) result }
@@ -507,7 +513,7 @@ pub(crate) fn grow_label<C: Counter>(
 {
     let node = read(nodes, i);
     if left == 0 {
-        return renew(nodes, i, node, label, Some(hop));
+        return update_node(nodes, i, node, label, Some(hop));
     }
     let at = left - 1;
     let bit = bit_at(q, at);
@@ -546,8 +552,8 @@ pub(crate) fn set_label(
     requires bits { left ≤ 128 }
     requires long { vec_len nodes.old.halves ≤ vec_len bests.old.halves }
     ensures long { vec_len nodes.new.halves ≤ vec_len bests.new.halves }
-    ensures made { IfOk result (λ more. (d : ℕ) (name : ℕ → Place) (n : ℕ) (p : List Bool) → left < d
-        → IsTree d (cells_of nodes.old) name i p → IsHeld (cells_of nodes.old) nodes.old.free name n
+    ensures made { IfOk result (λ more. (d : ℕ) (name : ℕ → Owner) (n : ℕ) (p : List Bool) → left < d
+        → IsTree d (cells_of nodes.old) name i p → HasSpares (cells_of nodes.old) nodes.old.free name n
         → IsPlaced d label (bits_of left q) hop (cells_of nodes.old) (cells_of nodes.new)
         nodes.new.free name i p (λ a. lpm (laid (route_set label hop) (bits_of left q) (walks_at d
         (cells_of nodes.old) i).routes) a inherited) (best_in bests.old) (best_in bests.new) more) }
@@ -558,7 +564,7 @@ pub(crate) fn set_label(
 {
     let node = read(nodes, i);
     if left == 0 {
-        return Ok(renew(nodes, i, node, label, Some(hop)));
+        return Ok(update_node(nodes, i, node, label, Some(hop)));
     }
     let at = left - 1;
     match node.half(bit_at(q, at)) {
@@ -603,7 +609,7 @@ pub(crate) fn reserve(nodes: &mut Nodes, bests: &mut Bests, more: usize) -> Resu
 
 /// The nodes of a tree with no routes and no entries.
 pub(crate) fn root_alone(alloc: Global) -> Nodes
-    ensures cells { cells_of result ≡ blank ∷ [] }
+    ensures cells { cells_of result ≡ blank_cell ∷ [] }
     ensures free { result.free ≡ 0 }
     ensures len { vec_len result.halves ≡ 0 }
 {

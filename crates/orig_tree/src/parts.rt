@@ -8,7 +8,7 @@ ghost use Rattle.table_model.specs.Entries.{of_table};
 ghost use Rattle.table_model.specs.Regions.{entry_at, lift};
 ghost use Rattle.fib_addr.specs.Views.{prefix_as};
 ghost use Rattle.orig_tree.specs.Arena.{cells_of, walks_at};
-ghost use Rattle.orig_tree.specs.Views.{Fits};
+ghost use Rattle.orig_tree.specs.Views.{FitsWidth};
 ghost use Rattle.orig_tree.specs.Walk.{has_node};
 
 use crate::node::{Label, Nodes, read, tell};
@@ -77,7 +77,7 @@ pub(crate) fn tell_within<S: EntrySink>(
     requires ready { S.ready out.old }
     ensures ready { OnOk result (S.ready out.new) }
     ensures takes { (d : ℕ) → left + (width prefix.now.family - prefix.now.len) < d
-        → Fits (width prefix.now.family - prefix.now.len) (cut (bits_of left q) (walks_at d (cells_of
+        → FitsWidth (width prefix.now.family - prefix.now.len) (cut (bits_of left q) (walks_at d (cells_of
         nodes.now) i).entries) → OnOk result (S.takes out.old (of_table prefix.now.family
         (lift (prefix_as prefix.now).bits (cut (bits_of left q) (walks_at d (cells_of nodes.now)
         i).entries))) out.new) }

@@ -4,24 +4,23 @@ ghost use Rattle.std.specs.Prelude.{◌≡◌, ◌≢◌, ◌≤◌, ◌+◌, �
 ghost use Rattle.table_model.specs.Bits.{bits_of};
 ghost use Rattle.table_model.specs.Table.{root, half, cut, inherit, lpm};
 ghost use Rattle.table_model.specs.Sets.{set_of, k_of, is_in, smallest};
-ghost use Rattle.hop_sets.specs.Hops.{SameHops};
-ghost use Rattle.orig_tree.specs.Spots.{answers_in, rows_in, EachFixed};
-ghost use Rattle.orig_tree.specs.Views.{Fits};
+ghost use Rattle.fib_addr.specs.HopSets.{SameHops};
+ghost use Rattle.orig_tree.specs.Spots.{spot_answers, spot_rows, EachFixed};
+ghost use Rattle.orig_tree.specs.Views.{FitsWidth};
 ghost use Rattle.orig_tree.specs.Cover.{SomeGets};
 ghost use Rattle.orig_tree.specs.Within.{nodes_in};
 
 use crate::best::{Best, Bests, best_at};
 use crate::counter::Counter;
 use crate::node::{Label, Nodes, cover, read};
-use fib_addr::bit_at;
-use hop_sets::HopSet;
+use fib_addr::{HopSet, bit_at};
 use std::alloc::{AllocError, Global};
 use std::marker::Model;
 
 /// A region of a tree: the addresses of a prefix. Contracts see the routes and the entries within it, and the hop that its
 /// addresses get from the routes above.
 #[derive(Drop)]
-pub struct Region<'a> {
+pub struct TreeRegion<'a> {
     pub(crate) nodes: &'a Nodes,
     pub(crate) bests: &'a Bests,
     /// The place of the prefix's node, if it is one.
@@ -32,7 +31,7 @@ pub struct Region<'a> {
     pub(crate) hop: u16,
 }
 
-impl<'a> Model for Region<'a> {
+impl<'a> Model for TreeRegion<'a> {
     ghost use Rattle.std.specs.Prelude.{◌≤◌};
     ghost use Rattle.orig_tree.specs.Arena.{cells_of};
     ghost use Rattle.orig_tree.specs.Bests.{best_in};
@@ -46,12 +45,12 @@ impl<'a> Model for Region<'a> {
         × IsRooted (cells_of r.nodes.now) r.place r.bits };
 }
 
-impl<'a> Region<'a> {
+impl<'a> TreeRegion<'a> {
     /// The one hop that all addresses of the region get from the routes, or `None` where two get different ones.
     pub fn leaf(&self) -> Option<u16>
         ensures one { IfSome result (λ h. (a : List Bool) → length a ≡ self.now.bits
-            → answers_in self.now a ≡ h) }
-        ensures more { IfNone result (k_of self.now.bits (answers_in self.now) ≢ 0) }
+            → spot_answers self.now a ≡ h) }
+        ensures more { IfNone result (k_of self.now.bits (spot_answers self.now) ≢ 0) }
         ensures node { IfNone result (length self.now.nodes ≡ 1 + (nodes_in (false ∷ []) self.now.nodes
             + nodes_in (true ∷ []) self.now.nodes)) }
     {
@@ -63,7 +62,7 @@ impl<'a> Region<'a> {
 
     /// What the region costs under a best hop, in entries: how many a least table of it has there.
     pub fn k(&self) -> u64
-        ensures { result ≡ k_of self.now.bits (answers_in self.now) }
+        ensures { result ≡ k_of self.now.bits (spot_answers self.now) }
     {
         match self.place {
             None => 0,
@@ -76,7 +75,7 @@ impl<'a> Region<'a> {
 
     /// Whether a hop is best for the region: one under which it costs least.
     pub fn is_best(&self, hop: u16) -> bool
-        ensures { result ≡ is_in hop (set_of self.now.bits (answers_in self.now)) }
+        ensures { result ≡ is_in hop (set_of self.now.bits (spot_answers self.now)) }
     {
         match self.place {
             None => self.hop == hop,
@@ -89,7 +88,7 @@ impl<'a> Region<'a> {
 
     /// The least of the best hops.
     pub fn least(&self) -> u16
-        ensures { result ≡ smallest (set_of self.now.bits (answers_in self.now)) }
+        ensures { result ≡ smallest (set_of self.now.bits (spot_answers self.now)) }
     {
         match self.place {
             None => self.hop,
@@ -106,7 +105,7 @@ impl<'a> Region<'a> {
     ///
     /// No memory.
     pub fn hops(&self, alloc: Global) -> Result<HopSet, AllocError>
-        ensures { IfOk result (λ s. SameHops s (set_of self.now.bits (answers_in self.now))) }
+        ensures { IfOk result (λ s. SameHops s (set_of self.now.bits (spot_answers self.now))) }
     {
         match self.place {
             None => Ok(HopSet::one(self.hop)),
@@ -130,10 +129,10 @@ impl<'a> Region<'a> {
     /// Whether each address of the region is within a route, or within an entry, that is in the region: what the region inherits then
     /// reaches none of them.
     pub fn fills(&self, label: Label) -> bool
-        ensures all { result ≡ true → Fits self.now.bits (rows_in label self.now)
-            → EachFixed self.now.bits (rows_in label self.now) }
-        ensures some { result ≡ false → Fits self.now.bits (rows_in label self.now)
-            → SomeGets self.now.bits (rows_in label self.now) None }
+        ensures all { result ≡ true → FitsWidth self.now.bits (spot_rows label self.now)
+            → EachFixed self.now.bits (spot_rows label self.now) }
+        ensures some { result ≡ false → FitsWidth self.now.bits (spot_rows label self.now)
+            → SomeGets self.now.bits (spot_rows label self.now) None }
     {
         match self.place {
             None => false,
@@ -145,7 +144,7 @@ impl<'a> Region<'a> {
     }
 
     /// The region of one half.
-    pub fn half(&self, bit: bool) -> Region<'a>
+    pub fn half(&self, bit: bool) -> TreeRegion<'a>
         requires { self.now.bits ≢ 0 }
         ensures bits { suc result.bits ≡ self.now.bits }
         ensures routes { result.routes ≡ half bit self.now.routes }
@@ -154,7 +153,7 @@ impl<'a> Region<'a> {
         ensures nodes { (p : List Bool) → nodes_in p result.nodes ≡ nodes_in (bit ∷ p) self.now.nodes }
     {
         match self.place {
-            None => Region {
+            None => TreeRegion {
                 nodes: self.nodes,
                 bests: self.bests,
                 place: None,
@@ -163,7 +162,7 @@ impl<'a> Region<'a> {
             },
             Some(i) => {
                 let node = read(self.nodes, i);
-                Region {
+                TreeRegion {
                     nodes: self.nodes,
                     bests: self.bests,
                     place: node.half(bit),
@@ -177,16 +176,16 @@ impl<'a> Region<'a> {
 
 /// The region of a path of `left` bits below a region. A step is a region that is passed.
 pub(crate) fn below<'a, C: Counter>(
-    mut region: Region<'a>,
+    mut region: TreeRegion<'a>,
     q: u128,
     mut left: u8,
     steps: &mut C,
-) -> Region<'a>
+) -> TreeRegion<'a>
     requires few { left ≤ region.bits }
     requires most { left ≤ 128 }
     ensures bits { result.bits + left ≡ region.entry.bits }
-    ensures answers { (a : List Bool) → answers_in result a
-        ≡ answers_in region.entry (bits_of left q ++ a) }
+    ensures answers { (a : List Bool) → spot_answers result a
+        ≡ spot_answers region.entry (bits_of left q ++ a) }
     ensures entries { result.entries ≡ cut (bits_of left q) region.entry.entries }
     ensures nodes { length result.nodes ≡ nodes_in (bits_of left q) region.entry.nodes }
     ensures steps { C.count steps.new ≤ C.count steps.old + left }

@@ -9,13 +9,13 @@ ghost use Rattle.table_model.specs.Entries.{with_entry, in_order, match_in, of_f
 ghost use Rattle.table_model.specs.Uniform.{AllGet, TwoDiffer};
 ghost use Rattle.table_model.specs.Table.{cut};
 ghost use Rattle.table_model.specs.Sets.{answers};
-ghost use Rattle.orig_tree.specs.Spots.{answers_in};
+ghost use Rattle.orig_tree.specs.Spots.{spot_answers};
 ghost use Rattle.table_model.specs.Regions.{above};
 ghost use Rattle.fib_addr.specs.Views.{addr_as, prefix_as, entry_as};
 ghost use Rattle.table_model.specs.Width.{width};
-ghost use Rattle.orig_tree.specs.Walk.{AreMadeTo, Allowed, has_node, rows_of};
+ghost use Rattle.orig_tree.specs.Walk.{AreMadeTo, CanEdit, has_node, rows_of};
 ghost use Rattle.orig_tree.specs.Edits.{routed};
-ghost use Rattle.orig_tree.specs.Views.{InPlace, Fits};
+ghost use Rattle.orig_tree.specs.Views.{InPlace, FitsWidth};
 ghost use Rattle.orig_tree.specs.Arena.{cells_of, whole};
 ghost use Rattle.orig_tree.specs.Trims.{AreTrimmed};
 ghost use Rattle.orig_tree.specs.Within.{nodes_in, told};
@@ -23,14 +23,16 @@ ghost use Rattle.orig_tree.specs.Within.{nodes_in, told};
 use crate::best::{Bests, Change, root_best};
 use crate::count::count_within;
 use crate::counter::{Counter, Uncounted};
-use crate::load::{lay_all, load_all};
+use crate::load::{insert_all, load_all};
 use crate::node::{Label, Nodes, answer, inherited, tell, uniform};
 use crate::node_ref::NodeRef;
 use crate::parts::{OwnRoute, route_at, seek, tell_within};
 use crate::path::path_bits;
-use crate::region::{Region, below};
+use crate::region::{TreeRegion, below};
 use crate::undo::{Undo, keep_if, room_of};
-use crate::whole::{alter, change, drop_unused, empty, enter, lay, make_room, take_back};
+use crate::whole::{
+    change, drop_unused, empty, insert_entry, insert_route, make_room, take_back, update_route,
+};
 use fib_addr::{Addr, Entry, EntrySink, Family, Hop, Prefix};
 use std::alloc::{AllocError, Global};
 use std::marker::Model;
@@ -92,7 +94,7 @@ fn tell_all<S: EntrySink>(
     label: Label,
     out: &mut S,
 ) -> Result<(), AllocError>
-    requires fits { Fits (width family) (rows_of label (whole family (cells_of nodes.now))) }
+    requires fits { FitsWidth (width family) (rows_of label (whole family (cells_of nodes.now))) }
     requires ready { S.ready out.old }
     ensures ready { OnOk result (S.ready out.new) }
     ensures takes { OnOk result (S.takes out.old (of_table family (rows_of label (whole family
@@ -157,7 +159,7 @@ impl Tree {
     /// # Errors
     ///
     /// No memory, which comes too where there would be 2^31 nodes or more.
-    pub fn enter_all(self, entries: &[Entry]) -> Result<Tree, AllocError>
+    pub fn insert_entries(self, entries: &[Entry]) -> Result<Tree, AllocError>
         requires { self.entries ≡ [] }
         ensures family { IfOk result (λ t. t.family ≡ self.family) }
         ensures routes { IfOk result (λ t. t.routes ≡ self.routes) }
@@ -167,7 +169,7 @@ impl Tree {
     {
         let mut nodes = self.nodes;
         let mut bests = self.bests;
-        lay_all(self.family, &mut nodes, &mut bests, Label::Entry, entries)?;
+        insert_all(self.family, &mut nodes, &mut bests, Label::Entry, entries)?;
         Ok(Tree {
             alloc: self.alloc,
             family: self.family,
@@ -184,7 +186,7 @@ impl Tree {
         ensures routes { IfOk result (λ v. map entry_as v.items ≡ self.now.routes) }
     {
         let mut list = Vec::new(self.alloc);
-        self.hand_routes(&mut list)?;
+        self.emit_routes(&mut list)?;
         Ok(list)
     }
 
@@ -195,7 +197,7 @@ impl Tree {
         ensures entries { IfOk result (λ v. map entry_as v.items ≡ self.now.entries) }
     {
         let mut list = Vec::new(self.alloc);
-        self.hand_entries(&mut list)?;
+        self.emit_entries(&mut list)?;
         Ok(list)
     }
 
@@ -204,7 +206,7 @@ impl Tree {
     /// # Errors
     ///
     /// No memory; then a front of the routes was taken.
-    pub fn hand_routes<S: EntrySink>(&self, out: &mut S) -> Result<(), AllocError>
+    pub fn emit_routes<S: EntrySink>(&self, out: &mut S) -> Result<(), AllocError>
         requires { S.ready out.old }
         ensures ready { OnOk result (S.ready out.new) }
         ensures takes { OnOk result (S.takes out.old self.now.routes out.new) }
@@ -218,7 +220,7 @@ impl Tree {
     /// # Errors
     ///
     /// No memory; then a front of the entries was taken.
-    pub fn hand_entries<S: EntrySink>(&self, out: &mut S) -> Result<(), AllocError>
+    pub fn emit_entries<S: EntrySink>(&self, out: &mut S) -> Result<(), AllocError>
         requires { S.ready out.old }
         ensures ready { OnOk result (S.ready out.new) }
         ensures takes { OnOk result (S.takes out.old self.now.entries out.new) }
@@ -249,10 +251,10 @@ impl Tree {
     }
 
     /// The region of a prefix, to ask what is best for it.
-    pub fn region(&self, prefix: &Prefix) -> Region<'_>
+    pub fn region(&self, prefix: &Prefix) -> TreeRegion<'_>
         requires { prefix.now.family ≡ self.now.family }
         ensures bits { result.bits + prefix.now.len ≡ width self.now.family }
-        ensures answers { (a : List Bool) → answers_in result a ≡ answers
+        ensures answers { (a : List Bool) → spot_answers result a ≡ answers
             (of_family self.now.family self.now.routes) (prefix_as prefix.now).bits a }
         ensures entries { result.entries ≡ cut (prefix_as prefix.now).bits
             (of_family self.now.family self.now.entries) }
@@ -261,17 +263,17 @@ impl Tree {
     }
 
     /// `region` with a count of its steps. A step is a region on the way to the prefix: one for each of its bits.
-    pub fn region_counted<C: Counter>(&self, prefix: &Prefix, steps: &mut C) -> Region<'_>
+    pub fn region_counted<C: Counter>(&self, prefix: &Prefix, steps: &mut C) -> TreeRegion<'_>
         requires { prefix.now.family ≡ self.now.family }
         ensures bits { result.bits + prefix.now.len ≡ width self.now.family }
-        ensures answers { (a : List Bool) → answers_in result a ≡ answers
+        ensures answers { (a : List Bool) → spot_answers result a ≡ answers
             (of_family self.now.family self.now.routes) (prefix_as prefix.now).bits a }
         ensures entries { result.entries ≡ cut (prefix_as prefix.now).bits
             (of_family self.now.family self.now.entries) }
         ensures nodes { length result.nodes ≡ nodes_in (prefix_as prefix.now).bits self.now.nodes }
         ensures steps { C.count steps.new ≤ C.count steps.old + prefix.now.len }
     {
-        let whole = Region {
+        let whole = TreeRegion {
             nodes: &self.nodes,
             bests: &self.bests,
             place: Some(0),
@@ -441,7 +443,7 @@ impl Tree {
         requires family { prefix.now.family ≡ self.old.family }
         requires node { own.is_node ≡ has_node (prefix_as prefix.now).bits self.old.nodes }
         requires route { own.hop ≡ lookup (same_prefix (prefix_as prefix.now)) self.old.routes }
-        requires allowed { Allowed (prefix_as prefix.now).bits set self.old.nodes }
+        requires allowed { CanEdit (prefix_as prefix.now).bits set self.old.nodes }
         ensures family { self.new.family ≡ self.old.family }
         ensures routes { OnOk result (self.new.routes ≡ routed (prefix_as prefix.now) set
             self.old.routes) }
@@ -455,7 +457,7 @@ impl Tree {
     {
         let q = path_bits(prefix);
         let spare = mem::replace(&mut self.spare, Vec::new(self.alloc));
-        let changes = alter(
+        let changes = update_route(
             self.alloc,
             self.family,
             &mut self.nodes,
@@ -705,7 +707,7 @@ impl Tree {
         }
         let q = path_bits(prefix);
         let spare = mem::replace(&mut self.spare, Vec::new(self.alloc));
-        let room = lay(
+        let room = insert_route(
             self.alloc,
             self.family,
             &mut self.nodes,
@@ -742,7 +744,7 @@ impl Tree {
         ensures held { has_node (prefix_as prefix.now).bits self.old.nodes ≡ true → IsOk result }
     {
         let q = path_bits(prefix);
-        enter(
+        insert_entry(
             self.family,
             &mut self.nodes,
             &mut self.bests,

@@ -4,11 +4,11 @@ ghost use Rattle.std.specs.Prelude.{◌≡◌, ◌≤◌, ℕ, OnOk, OnErr, IsOk
 ghost use Rattle.table_model.specs.Bits.{bits_of};
 ghost use Rattle.table_model.specs.Width.{width};
 ghost use Rattle.table_model.specs.Regions.{entry_at};
-ghost use Rattle.orig_tree.specs.Walk.{walks_of, no_walks, edited, Allowed, has_node};
+ghost use Rattle.orig_tree.specs.Walk.{walks_of, no_walks, edited, CanEdit, has_node};
 ghost use Rattle.orig_tree.specs.Trims.{IsTrimmed};
-ghost use Rattle.orig_tree.specs.Arena.{blank, cells_of, whole, IsArena, IsRoomier, HalvesStay};
+ghost use Rattle.orig_tree.specs.Arena.{blank_cell, cells_of, whole, IsArena, IsRoomier, HalvesStay};
 ghost use Rattle.orig_tree.specs.Bests.{best_in, KeepsBest, IsLaid};
-ghost use Rattle.orig_tree.specs.Undos.{TakesBack, CanUndo};
+ghost use Rattle.orig_tree.specs.Undos.{UndoesChange, CanUndo};
 ghost use Rattle.orig_tree.specs.Within.{nodes_in};
 ghost use Rattle.orig_tree.specs.declared.best.Best.{Best};
 ghost use Rattle.orig_tree.specs.declared.node.Label.TheVariants.{Route, Entry};
@@ -28,7 +28,7 @@ use std::alloc::{AllocError, Global};
 pub(crate) fn empty(alloc: Global, family: Family) -> Nodes
     ensures arena { IsArena family (cells_of result) result.free }
     ensures bare { whole family (cells_of result) ≡ walks_of None None no_walks no_walks }
-    ensures alone { cells_of result ≡ blank ∷ [] }
+    ensures alone { cells_of result ≡ blank_cell ∷ [] }
     ensures len { vec_len result.halves ≡ 0 }
 {
     let _ = family;
@@ -84,7 +84,7 @@ pub(crate) fn make_room(
 /// # Errors
 ///
 /// No memory; then nothing has changed.
-pub(crate) fn lay<C: Counter>(
+pub(crate) fn insert_route<C: Counter>(
     alloc: Global,
     family: Family,
     nodes: &mut Nodes,
@@ -136,7 +136,7 @@ pub(crate) fn lay<C: Counter>(
 /// # Errors
 ///
 /// No memory; then nothing has changed.
-pub(crate) fn alter<C: Counter>(
+pub(crate) fn update_route<C: Counter>(
     alloc: Global,
     family: Family,
     nodes: &mut Nodes,
@@ -151,7 +151,7 @@ pub(crate) fn alter<C: Counter>(
     requires arena { IsArena family (cells_of nodes.old) nodes.old.free }
     requires best { KeepsBest family (cells_of nodes.old) (best_in bests.old) }
     requires long { vec_len nodes.old.halves ≤ vec_len bests.old.halves }
-    requires allowed { Allowed (bits_of len q) set (whole family (cells_of nodes.old)).nodes }
+    requires allowed { CanEdit (bits_of len q) set (whole family (cells_of nodes.old)).nodes }
     ensures arena { IsArena family (cells_of nodes.new) nodes.new.free }
     ensures best { KeepsBest family (cells_of nodes.new) (best_in bests.new) }
     ensures long { vec_len nodes.new.halves ≤ vec_len bests.new.halves }
@@ -159,7 +159,7 @@ pub(crate) fn alter<C: Counter>(
         (whole family (cells_of nodes.old))) }
     ensures back { IfOk result (λ v. (hop : Option ℕ) → hop ≡ entry_at (bits_of len q) (whole family
         (cells_of nodes.old)).routes → has_node (bits_of len q) (whole family (cells_of
-        nodes.old)).nodes ≡ true → TakesBack family (whole family (cells_of nodes.old)).routes
+        nodes.old)).nodes ≡ true → UndoesChange family (whole family (cells_of nodes.old)).routes
         (cells_of nodes.new) (best_in bests.new) (record {
           q = q;
           changes = v;
@@ -217,7 +217,7 @@ pub(crate) fn take_back(
 pub(crate) fn change(family: Family, nodes: &mut Nodes, q: u128, len: u8, hop: Option<u16>)
     requires few { len ≤ width family }
     requires arena { IsArena family (cells_of nodes.old) nodes.old.free }
-    requires allowed { Allowed (bits_of len q) hop (whole family (cells_of nodes.old)).nodes }
+    requires allowed { CanEdit (bits_of len q) hop (whole family (cells_of nodes.old)).nodes }
     ensures arena { IsArena family (cells_of nodes.new) nodes.new.free }
     ensures walks { whole family (cells_of nodes.new) ≡ edited Entry (bits_of len q) hop (whole
         family (cells_of nodes.old)) }
@@ -233,7 +233,7 @@ pub(crate) fn change(family: Family, nodes: &mut Nodes, q: u128, len: u8, hop: O
 /// # Errors
 ///
 /// No memory, which comes only where the path is no node; then nothing has changed.
-pub(crate) fn enter(
+pub(crate) fn insert_entry(
     family: Family,
     nodes: &mut Nodes,
     bests: &mut Bests,

@@ -24,7 +24,7 @@ use Rattle.table_model.proofs.Laws.{fresh_law, aggregate_least}
 use Rattle.table_model.proofs.Patch.{aggregate_is}
 use Rattle.table_model.proofs.Both.{family_is, sorted_aggregate}
 use Rattle.orig_tree.proofs.Telling as telling
-use Rattle.orig_tree.specs.Spots.{Spot, answers_in}
+use Rattle.orig_tree.specs.Spots.{Spot, spot_answers}
 use Rattle.ortc.proofs.Alike.{agg_alike, half_answers}
 
 -- ---- a uniform region
@@ -95,12 +95,12 @@ agg_suc d e f L h hop o n k i =
 
 -- what a half's entries are told as
 half_told : (p q : code.Prefix) (s t : Spot) (b : Bool) (e hop : ℕ) → suc t.bits ≡ s.bits → suc e ≡ s.bits → t.routes ≡ half b s.routes → t.entries ≡ half b s.entries → t.hop ≡ inherit (root s.routes) s.hop → prefix_as q ≡ half_at b (prefix_as p)
-    → of_table q.family (lift (prefix_as q).bits (agg t.bits (answers_in t) t.entries hop)) ≡ of_table p.family (lift ((prefix_as p).bits ++ (b ∷ [])) (agg e (side b (answers_in s)) (half b s.entries) hop))
+    → of_table q.family (lift (prefix_as q).bits (agg t.bits (spot_answers t) t.entries hop)) ≡ of_table p.family (lift ((prefix_as p).bits ++ (b ∷ [])) (agg e (side b (spot_answers s)) (half b s.entries) hop))
 half_told p q s t b e hop n m r l h k =
     let is : t.bits ≡ e = omega (arith, n, m) in
-    ap (λ (x : Prefix). of_table x.family (lift x.bits (agg t.bits (answers_in t) t.entries hop))) k
+    ap (λ (x : Prefix). of_table x.family (lift x.bits (agg t.bits (spot_answers t) t.entries hop))) k
     ∙ ap (λ T. of_table p.family (lift ((prefix_as p).bits ++ (b ∷ [])) T))
-    (agg_alike t.bits (answers_in t) (side b (answers_in s)) t.entries hop (λ a u. half_answers s t b r h a) ∙ (ap (λ d. agg d (side b (answers_in s)) t.entries hop) is ∙ ap (λ E. agg e (side b (answers_in s)) E hop) l))
+    (agg_alike t.bits (spot_answers t) (side b (spot_answers s)) t.entries hop (λ a u. half_answers s t b r h a) ∙ (ap (λ d. agg d (side b (spot_answers s)) t.entries hop) is ∙ ap (λ E. agg e (side b (spot_answers s)) E hop) l))
 
 -- ---- who takes the entries
 
@@ -113,26 +113,26 @@ module _ {S : Type 0} (Takes : S → Entries → S → Type 0) where
   module _ (joins : (a b c : S) (entries more : Entries) → Takes a entries b → Takes b more c → Takes a (entries ++ more) c) where
     -- of any other region: its own, and those of its halves
     pub handed_join : (p q r : code.Prefix) (s low high : Spot) (h hop : ℕ) (o : Option ℕ) (X Y Z W : S) → s.bits ≢ 0
-        → o ≡ own (set_of s.bits (answers_in s)) (root s.entries) h → hop ≡ inherit o h
+        → o ≡ own (set_of s.bits (spot_answers s)) (root s.entries) h → hop ≡ inherit o h
         → suc low.bits ≡ s.bits → low.routes ≡ half false s.routes → low.entries ≡ half false s.entries → low.hop ≡ inherit (root s.routes) s.hop
         → suc high.bits ≡ s.bits → high.routes ≡ half true s.routes → high.entries ≡ half true s.entries → high.hop ≡ inherit (root s.routes) s.hop
         → prefix_as q ≡ half_at false (prefix_as p) → prefix_as r ≡ half_at true (prefix_as p)
         → Takes X (map (λ k. (prefix_as p, k)) (option_to_list o)) Y
-        → Takes Y (of_table q.family (lift (prefix_as q).bits (agg low.bits (answers_in low) low.entries hop))) Z
-        → Takes Z (of_table r.family (lift (prefix_as r).bits (agg high.bits (answers_in high) high.entries hop))) W
-        → Takes X (of_table p.family (lift (prefix_as p).bits (agg s.bits (answers_in s) s.entries h))) W
+        → Takes Y (of_table q.family (lift (prefix_as q).bits (agg low.bits (spot_answers low) low.entries hop))) Z
+        → Takes Z (of_table r.family (lift (prefix_as r).bits (agg high.bits (spot_answers high) high.entries hop))) W
+        → Takes X (of_table p.family (lift (prefix_as p).bits (agg s.bits (spot_answers s) s.entries h))) W
     handed_join p q r s low high h hop o X Y Z W some ow i ln lr le lh hn hr he hh eq er y z w =
         let e = s.bits - 1 in
         let n : suc e ≡ s.bits = omega (arith, some) in
         let P = (prefix_as p).bits in
         let m = p.family in
-        let A = agg e (side false (answers_in s)) (half false s.entries) hop in
-        let B = agg e (side true (answers_in s)) (half true s.entries) hop in
+        let A = agg e (side false (spot_answers s)) (half false s.entries) hop in
+        let B = agg e (side true (spot_answers s)) (half true s.entries) hop in
         let O = of_table m (lift P (here o)) in
         let C = of_table m (lift (P ++ (false ∷ [])) A) in
         let D = of_table m (lift (P ++ (true ∷ [])) B) in
-        let whole : of_table m (lift P (agg s.bits (answers_in s) s.entries h)) ≡ O ++ (C ++ D) =
-        ap (λ x. of_table m (lift P x)) (agg_suc s.bits e (answers_in s) s.entries h hop o n ow i)
+        let whole : of_table m (lift P (agg s.bits (spot_answers s) s.entries h)) ≡ O ++ (C ++ D) =
+        ap (λ x. of_table m (lift P x)) (agg_suc s.bits e (spot_answers s) s.entries h hop o n ow i)
         ∙ (ap (of_table m) (telling.lift_join P o A B) ∙ (telling.seen_append m (lift P (here o)) (lift (P ++ (false ∷ [])) A ++ lift (P ++ (true ∷ [])) B)
         ∙ ap (λ x. O ++ x) (telling.seen_append m (lift (P ++ (false ∷ [])) A) (lift (P ++ (true ∷ [])) B))))
         in
@@ -144,21 +144,21 @@ module _ {S : Type 0} (Takes : S → Entries → S → Type 0) where
 -- ---- the region of a prefix
 
 within_is : (p : code.Prefix) (f : Family) (h : ℕ) (R E : Table) (s : Spot) → p.family ≡ f → s.bits + p.len ≡ width f
-    → ((a : List Bool) → answers_in s a ≡ answers R (prefix_as p).bits a) → s.entries ≡ cut (prefix_as p).bits E
-    → of_table p.family (lift (prefix_as p).bits (agg s.bits (answers_in s) s.entries h)) ≡ of_table f (aggregate (width f) R (prefix_as p).bits h E)
+    → ((a : List Bool) → spot_answers s a ≡ answers R (prefix_as p).bits a) → s.entries ≡ cut (prefix_as p).bits E
+    → of_table p.family (lift (prefix_as p).bits (agg s.bits (spot_answers s) s.entries h)) ≡ of_table f (aggregate (width f) R (prefix_as p).bits h E)
 within_is p f h R E s m n g k =
     let P = (prefix_as p).bits in
     let l : s.bits ≡ width f - length P = omega (arith, n, ap width m, length_prefix (width p.family) p.len p.bits p.fits) in
-    ap (λ z. of_table z (lift P (agg s.bits (answers_in s) s.entries h))) m
-    ∙ ap (λ T. of_table f (lift P T)) (agg_alike s.bits (answers_in s) (answers R P) s.entries h (λ a u. g a) ∙ (ap (λ T. agg s.bits (answers R P) T h) k ∙ ap (λ z. agg z (answers R P) (cut P E) h) l))
+    ap (λ z. of_table z (lift P (agg s.bits (spot_answers s) s.entries h))) m
+    ∙ ap (λ T. of_table f (lift P T)) (agg_alike s.bits (spot_answers s) (answers R P) s.entries h (λ a u. g a) ∙ (ap (λ T. agg s.bits (answers R P) T h) k ∙ ap (λ z. agg z (answers R P) (cut P E) h) l))
 
 -- behind no entries
 pub within_told : (p : code.Prefix) (f : Family) (h : ℕ) (R E : Table) (X W : Entries) (s : Spot) → p.family ≡ f → X ≡ [] → s.bits + p.len ≡ width f
-    → ((a : List Bool) → answers_in s a ≡ answers R (prefix_as p).bits a) → s.entries ≡ cut (prefix_as p).bits E
-    → W ≡ X ++ of_table p.family (lift (prefix_as p).bits (agg s.bits (answers_in s) s.entries h))
+    → ((a : List Bool) → spot_answers s a ≡ answers R (prefix_as p).bits a) → s.entries ≡ cut (prefix_as p).bits E
+    → W ≡ X ++ of_table p.family (lift (prefix_as p).bits (agg s.bits (spot_answers s) s.entries h))
     → W ≡ of_table f (aggregate (width f) R (prefix_as p).bits h E)
 within_told p f h R E X W s m x n g k t =
-    t ∙ (ap (λ z. z ++ of_table p.family (lift (prefix_as p).bits (agg s.bits (answers_in s) s.entries h))) x ∙ within_is p f h R E s m n g k)
+    t ∙ (ap (λ z. z ++ of_table p.family (lift (prefix_as p).bits (agg s.bits (spot_answers s) s.entries h))) x ∙ within_is p f h R E s m n g k)
 
 -- and a least table of the region
 pub within_least : (p : code.Prefix) (f : Family) (h : ℕ) (R E : Table) (W : Entries) → p.family ≡ f
@@ -187,8 +187,8 @@ within_sorted p f h R E W m e =
 
 -- who takes the entries of its region takes the least table
 pub handed_all : {S : Type 0} (Takes : S → Entries → S → Type 0) (f : Family) (p : code.Prefix) (h : ℕ) (R E : Table) (s : Spot) (X Y : S) → prefix_as p ≡ record { family = f; bits = [] } → h ≡ 0 → s.bits + p.len ≡ width f
-    → ((a : List Bool) → answers_in s a ≡ answers R (prefix_as p).bits a) → s.entries ≡ cut (prefix_as p).bits E
-    → Takes X (of_table p.family (lift (prefix_as p).bits (agg s.bits (answers_in s) s.entries h))) Y
+    → ((a : List Bool) → spot_answers s a ≡ answers R (prefix_as p).bits a) → s.entries ≡ cut (prefix_as p).bits E
+    → Takes X (of_table p.family (lift (prefix_as p).bits (agg s.bits (spot_answers s) s.entries h))) Y
     → Takes X (of_table f (aggregate (width f) R [] 0 E)) Y
 handed_all Takes f p h R E s X Y e z n g k t =
     let m : p.family ≡ f = ap (λ (x : Prefix). x.family) e in

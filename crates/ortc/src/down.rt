@@ -17,15 +17,15 @@ ghost use Rattle.table_model.specs.Both.{aggregate_in};
 ghost use Rattle.cert_model.specs.Rows.{family_rows};
 ghost use Rattle.fib_addr.specs.Views.{entry_as, prefix_as};
 ghost use Rattle.cert_model.specs.Views.{row_as};
-ghost use Rattle.orig_tree.specs.Spots.{answers_in};
+ghost use Rattle.orig_tree.specs.Spots.{spot_answers};
 ghost use Rattle.orig_tree.specs.Within.{nodes_in};
 ghost use Rattle.ortc.specs.Proved.{ProveLeast};
 ghost use Rattle.ortc.specs.Tables.{IsAggregateOf};
 
 use crate::rows::certify;
 use crate::table::Fresh;
-use fib_addr::{Entry, EntrySink, Hop, Prefix, hand_entry};
-use orig_tree::{Counter, Region, Tree, Uncounted};
+use fib_addr::{Entry, EntrySink, Hop, Prefix, emit_entry};
+use orig_tree::{Counter, Tree, TreeRegion, Uncounted};
 use std::alloc::{AllocError, Global};
 
 /// The hop of a leaf's own entry, if it gets one.
@@ -37,8 +37,8 @@ fn leaf_hop(hop: u16, inherited: u16) -> Option<u16>
 
 /// The hop of a region's own entry, if it gets one: none where what it inherits is best for it, else the old entry's hop
 /// where that is best, else the least of the best hops.
-pub fn own_hop(region: &Region<'_>, inherited: u16) -> Option<u16>
-    ensures { result ≡ own (set_of region.now.bits (answers_in region.now)) (root region.now.entries)
+pub fn own_hop(region: &TreeRegion<'_>, inherited: u16) -> Option<u16>
+    ensures { result ≡ own (set_of region.now.bits (spot_answers region.now)) (root region.now.entries)
         inherited }
 {
     if region.is_best(inherited) {
@@ -59,7 +59,7 @@ fn below(label: Option<u16>, inherited: u16) -> u16
 
 /// Hands on the entries of the region of a prefix that inherits a hop.
 fn descend<S: EntrySink, C: Counter>(
-    region: &Region<'_>,
+    region: &TreeRegion<'_>,
     inherited: u16,
     prefix: &Prefix,
     out: &mut S,
@@ -69,13 +69,13 @@ fn descend<S: EntrySink, C: Counter>(
     requires ready { S.ready out.old }
     ensures ready { OnOk result (S.ready out.new) }
     ensures takes { OnOk result (S.takes out.old (of_table prefix.now.family
-        (lift (prefix_as prefix.now).bits (agg region.now.bits (answers_in region.now)
+        (lift (prefix_as prefix.now).bits (agg region.now.bits (spot_answers region.now)
         region.now.entries inherited))) out.new) }
     ensures steps { C.count steps.new ≤ C.count steps.old + 1 + 2 * length region.now.nodes }
 {
     steps.tick();
     if let Some(hop) = region.leaf() {
-        hand_entry(prefix, leaf_hop(hop, inherited), out)?;
+        emit_entry(prefix, leaf_hop(hop, inherited), out)?;
         return Ok(());
     }
     if prefix.len == prefix.family.width() {
@@ -83,7 +83,7 @@ fn descend<S: EntrySink, C: Counter>(
     }
     let own = own_hop(region, inherited);
     let hop = below(own, inherited);
-    hand_entry(prefix, own, out)?;
+    emit_entry(prefix, own, out)?;
     descend(&region.half(false), hop, &prefix.half(false), out, steps)?;
     descend(&region.half(true), hop, &prefix.half(true), out, steps)?;
     Ok(())
@@ -160,7 +160,7 @@ pub fn within_counted<C: Counter>(
 /// # Errors
 ///
 /// No memory; then a front of the entries was taken.
-pub fn hand_least<S: EntrySink>(tree: &Tree, out: &mut S) -> Result<(), AllocError>
+pub fn emit_least<S: EntrySink>(tree: &Tree, out: &mut S) -> Result<(), AllocError>
     requires { S.ready out.old }
     ensures ready { OnOk result (S.ready out.new) }
     ensures takes { OnOk result (S.takes out.old (aggregate_in tree.now.family tree.now.routes
@@ -189,7 +189,7 @@ pub fn least_table(alloc: Global, tree: &Tree) -> Result<Vec<Entry>, AllocError>
         (map entry_as v.items))) }
 {
     let mut table = Vec::new(alloc);
-    hand_least(tree, &mut table)?;
+    emit_least(tree, &mut table)?;
     Ok(table)
 }
 

@@ -8,6 +8,6 @@ mod down;
 mod rows;
 mod table;
 
-pub use down::{fresh, hand_least, least_table, own_hop, within, within_counted};
+pub use down::{emit_least, fresh, least_table, own_hop, within, within_counted};
 pub use rows::certify;
 pub use table::Fresh;

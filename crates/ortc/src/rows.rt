@@ -9,16 +9,16 @@ ghost use Rattle.table_model.specs.Sets.{set_of, k_of};
 ghost use Rattle.cert_model.specs.Rows.{bound_row, family_rows, region_rows};
 ghost use Rattle.cert_model.specs.Right.{bound_by};
 ghost use Rattle.fib_addr.specs.Views.{prefix_as};
-ghost use Rattle.orig_tree.specs.Spots.{answers_in};
+ghost use Rattle.orig_tree.specs.Spots.{spot_answers};
 
 use cert_model::{Row, RowSink};
 use fib_addr::{Hop, Prefix};
-use orig_tree::{Region, Tree};
+use orig_tree::{Tree, TreeRegion};
 use std::alloc::AllocError;
 
 /// Hands on the rows of the region of a prefix.
-fn hand_rows<S: RowSink>(
-    region: &Region<'_>,
+fn emit_rows<S: RowSink>(
+    region: &TreeRegion<'_>,
     prefix: &Prefix,
     out: &mut S,
 ) -> Result<(), AllocError>
@@ -26,7 +26,7 @@ fn hand_rows<S: RowSink>(
     requires ready { S.ready out.old }
     ensures ready { OnOk result (S.ready out.new) }
     ensures takes { OnOk result (S.takes out.old (region_rows region.now.bits
-        (answers_in region.now) (prefix_as prefix.now)) out.new) }
+        (spot_answers region.now) (prefix_as prefix.now)) out.new) }
 {
     if let Some(hop) = region.leaf() {
         out.put(Row::Leaf(*prefix, Hop(hop)))?;
@@ -35,16 +35,16 @@ fn hand_rows<S: RowSink>(
     if prefix.len == prefix.family.width() {
         return Ok(());
     }
-    hand_rows(&region.half(false), &prefix.half(false), out)?;
-    hand_rows(&region.half(true), &prefix.half(true), out)?;
+    emit_rows(&region.half(false), &prefix.half(false), out)?;
+    emit_rows(&region.half(true), &prefix.half(true), out)?;
     out.put(Row::Join(*prefix, region.k()))?;
     Ok(())
 }
 
 /// How many entries a least table of the region has, where nothing is inherited.
-fn bound_of(region: &Region<'_>) -> Result<u64, AllocError>
-    ensures { IfOk result (λ n. n ≡ bound_by (set_of region.now.bits (answers_in region.now))
-        (k_of region.now.bits (answers_in region.now))) }
+fn bound_of(region: &TreeRegion<'_>) -> Result<u64, AllocError>
+    ensures { IfOk result (λ n. n ≡ bound_by (set_of region.now.bits (spot_answers region.now))
+        (k_of region.now.bits (spot_answers region.now))) }
 {
     if region.is_best(0) {
         return Ok(region.k());
@@ -67,7 +67,7 @@ pub fn certify<S: RowSink>(tree: &Tree, out: &mut S) -> Result<(), AllocError>
 {
     let whole = Prefix::whole(tree.family());
     let region = tree.region(&whole);
-    hand_rows(&region, &whole, out)?;
+    emit_rows(&region, &whole, out)?;
     out.put(Row::Bound(whole.family, bound_of(&region)?))?;
     Ok(())
 }

@@ -3,8 +3,8 @@ use Rattle.std.proofs.Common.{◌≡◌, ℕ, ◌+◌, ◌≤◌, List, Bool, fa
 use Rattle.table_model.specs.declared.family.Family.{Family}
 use Rattle.table_model.specs.Entries.{Entries}
 use Rattle.buddy_arena.specs.Space.{Space}
-use Rattle.block_pool.specs.Arrays.{Array, places_of}
-use Rattle.block_pool.specs.Places.{count_free}
+use Rattle.buddy_arena.specs.Arrays.{Array, places_of}
+use Rattle.buddy_arena.specs.Places.{count_free}
 use Rattle.fib_addr.specs.Answers.{all_answers}
 use Rattle.poptrie_build.specs.Need.{trie_nodes, trie_leaves}
 use Rattle.poptrie_build.specs.Stands.{TrieStands}

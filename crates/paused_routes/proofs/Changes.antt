@@ -13,7 +13,7 @@ use Rattle.table_model.specs.declared.family.Family.TheVariants.{V4, V6}
 use Rattle.table_model.proofs.BitLaws.{length-bits_of, value-bits_of, value-lt, bits_from_value}
 use Rattle.fib_addr.specs.Answers.{all_answers, part, side}
 use Rattle.poptrie_build.specs.Tries.{rest}
-use Rattle.poptrie_set.specs.Lives.{Store, covers, ShowsIn}
+use Rattle.poptrie_set.specs.Lives.{Store, stores_cover, ShowsIn}
 use Rattle.poptrie_set.specs.Prepares.{SameAt, AreInOrder, StoresJust}
 use Rattle.poptrie_update.specs.Lives.{Living, Shows, ShowsBy, is_selecting}
 use Rattle.poptrie_update.specs.Pendings.{IsTokenBy, IsSelectorOf}
@@ -22,7 +22,7 @@ use Rattle.poptrie_update.specs.declared.live.Other.{Other}
 use Rattle.poptrie_update.specs.declared.live.Other.TheVariants as other
 use Rattle.poptrie_update.specs.declared.pending.Stores as code_stores
 use Rattle.poptrie_update.specs.declared.pending.Stores.TheVariants as stores
-use Rattle.step_model.specs.Machine.{World, words, Ascends, Differs, AreChanges, MayStore, slot_of}
+use Rattle.step_script.specs.Machine.{World, words, Ascends, Differs, AreChanges, MayStore, direct_slot}
 use Rattle.paused_routes.specs.Paused.{stores_in}
 use Rattle.paused_routes.proofs.Slots.{eq_comm}
 
@@ -65,7 +65,7 @@ abbrev AreBelow : ℕ → List Store → Type 0
 AreBelow n stores = AllByRecursion (λ (x : Store). x.0 < n) stores
 
 module _ (w : World) (n : ℕ) (f : Family) (few : w.direct ≤ 18) where
-  in_slot : (a : Address) (v : ℕ) → IsAddress a → slot_of w a ≡ v → v < 2 ^ w.direct → take w.direct a.bits ≡ bits_of w.direct v
+  in_slot : (a : Address) (v : ℕ) → IsAddress a → direct_slot w a ≡ v → v < 2 ^ w.direct → take w.direct a.bits ≡ bits_of w.direct v
   in_slot a v is at below =
       let long : w.direct ≤ length a.bits = omega (arith, few, is, wide a.family) in
       bits_from_value (take w.direct a.bits) (bits_of w.direct v) (length-take-le w.direct a.bits long ∙ sym (length-bits_of w.direct v)) (at ∙ sym (value-bits_of w.direct v ∙ mod-eq_of_lt below))
@@ -98,17 +98,17 @@ module _ (w : World) (n : ℕ) (f : Family) (few : w.direct ≤ 18) where
       let long : w.direct ≤ length d.0.bits = omega (arith, few, d.1, wide d.0.family) in
       subst (λ (k : ℕ). v < 2 ^ k) (length-take-le w.direct d.0.bits long) (subst (λ (u : ℕ). u < 2 ^ length (take w.direct d.0.bits)) d.3 (value-lt (take w.direct d.0.bits)))
 
-  covered_below : (stores : List Store) → AreBelow (2 ^ w.direct) stores → (v : ℕ) → covers stores v ≡ true → v < 2 ^ w.direct
+  covered_below : (stores : List Store) → AreBelow (2 ^ w.direct) stores → (v : ℕ) → stores_cover stores v ≡ true → v < 2 ^ w.direct
   covered_below [] below v e = absurd (cc)
   covered_below (x ∷ stores) below v e = elim (cases_eq x.0 v) [
     | inl q ↦ subst (λ (u : ℕ). u < 2 ^ w.direct) q below.0
-    | inr q ↦ covered_below stores below.1 v (sym (ap (λ (b : Bool). b || covers stores v) (ne_eqb x.0 v q)) ∙ e)
+    | inr q ↦ covered_below stores below.1 v (sym (ap (λ (b : Bool). b || stores_cover stores v) (ne_eqb x.0 v q)) ∙ e)
   ]
 
-  changed : (stores : List Store) → AreBelow (2 ^ w.direct) stores → StoresJust f w.direct (w.routes n) (w.routes (suc n)) stores → (v : ℕ) → (b : Bool) → covers stores v ≡ b → (b ≡ true) ↔ Differs w n f v
+  changed : (stores : List Store) → AreBelow (2 ^ w.direct) stores → StoresJust f w.direct (w.routes n) (w.routes (suc n)) stores → (v : ℕ) → (b : Bool) → stores_cover stores v ≡ b → (b ≡ true) ↔ Differs w n f v
   changed stores below just v true e =
       let low : v < 2 ^ w.direct = covered_below stores below v e in
-      ((λ q. differs v low (λ same. let z : covers stores v ≡ false = (just.just v low).1 same in absurd (cc))), (λ d. refl))
+      ((λ q. differs v low (λ same. let z : stores_cover stores v ≡ false = (just.just v low).1 same in absurd (cc))), (λ d. refl))
   changed stores below just v false e = ((λ q. absurd (cc)), (λ d. let low : v < 2 ^ w.direct = in_range v d in absurd (not_same v low d ((just.just v low).0 e))))
 
 -- ---- in the order of slots
@@ -118,12 +118,12 @@ ascends [] o = tt
 ascends (x ∷ []) o = tt
 ascends (x ∷ y ∷ stores) o = (o.0.0, ascends (y ∷ stores) o.1)
 
-covers_all : (stores : List Store) (v : ℕ) → covers stores v ≡ list_any (nat_eq v) (map (λ (x : ℕ × ℕ). x.0) stores)
+covers_all : (stores : List Store) (v : ℕ) → stores_cover stores v ≡ list_any (nat_eq v) (map (λ (x : ℕ × ℕ). x.0) stores)
 covers_all [] v = refl
-covers_all (x ∷ stores) v = ap (λ (b : Bool). b || covers stores v) (eq_comm x.0 v) ∙ ap (λ (b : Bool). nat_eq v x.0 || b) (covers_all stores v)
+covers_all (x ∷ stores) v = ap (λ (b : Bool). b || stores_cover stores v) (eq_comm x.0 v) ∙ ap (λ (b : Bool). nat_eq v x.0 || b) (covers_all stores v)
 
 pub are_changes : (w : World) (n : ℕ) (f : Family) (stores : List Store) → w.direct ≤ 18 → AreBelow (2 ^ w.direct) stores → StoresJust f w.direct (w.routes n) (w.routes (suc n)) stores → AreChanges w n f (map (λ (x : ℕ × ℕ). x.0) stores)
-are_changes w n f stores few below just = (ascends stores just.in_order, (λ v. subst (λ (b : Bool). (b ≡ true) ↔ Differs w n f v) (covers_all stores v) (changed w n f few stores below just v (covers stores v) refl)))
+are_changes w n f stores few below just = (ascends stores just.in_order, (λ v. subst (λ (b : Bool). (b ≡ true) ↔ Differs w n f v) (covers_all stores v) (changed w n f few stores below just v (stores_cover stores v) refl)))
 
 -- ---- as the token tells
 due_below : (n : ℕ) (new : List ℕ) (stores : List Store) → AllByRecursion (λ (x : Store). (x.0 < n) × (slice_index new x.0 ≡ x.1)) stores → AreBelow n stores

@@ -7,14 +7,14 @@ use Rattle.fib_addr.specs.Answers.{all_answers}
 use Rattle.orig_tree.specs.Views.{Labels}
 use Rattle.poptrie_build.specs.Tries.{node_need, leaf_need}
 use Rattle.poptrie_update.specs.Lives.{Living, Shows, Past, is_pending, is_selecting}
-use Rattle.poptrie_cursor.specs.Cursors.{lookup_of}
-use Rattle.step_model.specs.Machine.{World, State, Begun, Lookup, is_in, changes_before}
+use Rattle.poptrie_update.specs.Cursors.{lookup_of}
+use Rattle.step_script.specs.Machine.{World, State, Begun, Lookup, changes_family, changes_before}
 use Rattle.paused_routes.specs.declared.routes.PausedRoutes.{PausedRoutes}
 use Rattle.paused_routes.specs.Paused.{IsWorld, is_own, shown_after, needs_before, AreSame, IsBegun, IsTrieAt, IsTreeAt, IsAt}
 use Rattle.paused_routes.specs.Calls.{IsElsewhere, ended_with}
 use Rattle.paused_routes.proofs.Alike.{live_alike}
 
-module _ (w : World) (f : Family) (n : ℕ) (other : is_in f (w.changed n) ≡ false) where
+module _ (w : World) (f : Family) (n : ℕ) (other : changes_family f (w.changed n) ≡ false) where
   not_own : (b : Option Begun) → is_own w f n b ≡ false
   not_own None = refl
   not_own (Some x) = other
@@ -90,7 +90,7 @@ module _ (w : World) (f : Family) (n : ℕ) (other : is_in f (w.changed n) ≡ f
       before = λ e. absurd (cc);
     }
 
-pub over_at : (w : World) (f : Family) (s : State) (p : PausedRoutes) → is_in f (w.changed s.ended) ≡ false → IsAt w f s p → IsAt w f (ended_with s) p
+pub over_at : (w : World) (f : Family) (s : State) (p : PausedRoutes) → changes_family f (w.changed s.ended) ≡ false → IsAt w f s p → IsAt w f (ended_with s) p
 over_at w f s p other at = (
   at.0,
   record {
@@ -105,10 +105,10 @@ over_at w f s p other at = (
 )
 
 -- with the same number of events
-elsewhere_in : (w : World) (f : Family) (n : ℕ) (b c : Option Begun) (t : Labels) (l : Living) → (is_in f (w.changed n) ≡ true → c ≡ b) → IsTreeAt w f n b t × IsTrieAt w f n b l → IsTreeAt w f n c t × IsTrieAt w f n c l
-elsewhere_in w f n b c t l same h = by (is_in f (w.changed n)) refl
+elsewhere_in : (w : World) (f : Family) (n : ℕ) (b c : Option Begun) (t : Labels) (l : Living) → (changes_family f (w.changed n) ≡ true → c ≡ b) → IsTreeAt w f n b t × IsTrieAt w f n b l → IsTreeAt w f n c t × IsTrieAt w f n c l
+elsewhere_in w f n b c t l same h = by (changes_family f (w.changed n)) refl
   where
-    by : (i : Bool) → is_in f (w.changed n) ≡ i → IsTreeAt w f n c t × IsTrieAt w f n c l
+    by : (i : Bool) → changes_family f (w.changed n) ≡ i → IsTreeAt w f n c t × IsTrieAt w f n c l
     by true e = subst (λ (x : Option Begun). IsTreeAt w f n x t × IsTrieAt w f n x l) (sym (same e)) h
     by false e = (tree_elsewhere w f n e t b c h.0, trie_elsewhere w f n e l b c h.1)
 

@@ -6,10 +6,10 @@ use Rattle.fib_addr.specs.Answers.{all_answers}
 use Rattle.orig_tree.specs.Views.{Labels}
 use Rattle.poptrie_build.specs.Tries.{node_need, leaf_need}
 use Rattle.poptrie_update.specs.Lives.{Living, Shows, Past, HasShapeOf, is_pending}
-use Rattle.poptrie_cursor.specs.Cursors.{Opens, Dues, lookup_of, FitsAll}
-use Rattle.poptrie_cursor.specs.declared.cursors.Lookup as code_lookup
+use Rattle.poptrie_update.specs.Cursors.{OpenLookups, Dues, lookup_of, FitsAll}
+use Rattle.poptrie_update.specs.declared.cursors.Lookup as code_lookup
 use Rattle.route_tries.specs.declared.sizes.Sizes.{Sizes}
-use Rattle.step_model.specs.Machine.{World, changes_before, at_first}
+use Rattle.step_script.specs.Machine.{World, changes_before, at_first}
 use Rattle.paused_routes.specs.Paused.{needs_before, AreSame, IsTrieAt, IsAt}
 use Rattle.paused_routes.specs.Calls.{IsWorldOf}
 
@@ -44,7 +44,7 @@ many_of : (many : ℕ) (x : Option code_lookup.Lookup) → length (replicate man
 many_of zero x = refl
 many_of (suc many) x = ap suc (many_of many x)
 
-pub first_at : (w : World) (z : Sizes) (t : Labels) (l : Living) (cs : Opens) → IsTrieAt w t.family 0 None l → cs ≡ replicate 64 None → ((l : Living) (due : Dues) → FitsAll l cs due) → IsWorldOf w t.family t.routes z → IsAt w t.family at_first (record { tree = t; live = l; cursors = cs })
+pub first_at : (w : World) (z : Sizes) (t : Labels) (l : Living) (cs : OpenLookups) → IsTrieAt w t.family 0 None l → cs ≡ replicate 64 None → ((l : Living) (due : Dues) → FitsAll l cs due) → IsWorldOf w t.family t.routes z → IsAt w t.family at_first (record { tree = t; live = l; cursors = cs })
 first_at w z t l cs trie none fits of = (
   due,
   record {
@@ -52,9 +52,9 @@ first_at w z t l cs trie none fits of = (
     tree = record { family = refl; routes = of.routes; before = λ e. absurd (cc) };
     trie = trie;
     fits = fits l due;
-    same = λ n. subst (λ (x : Option code_lookup.Lookup). AreSame w t.family None x (due n)) (sym (ap (λ (xs : Opens). lookup_of xs n) none ∙ none_at 64 n None refl)) tt;
+    same = λ n. subst (λ (x : Option code_lookup.Lookup). AreSame w t.family None x (due n)) (sym (ap (λ (xs : OpenLookups). lookup_of xs n) none ∙ none_at 64 n None refl)) tt;
     started = λ n k e. absurd (cc);
-    many = ap (λ (xs : Opens). length xs) none ∙ many_of 64 None;
+    many = ap (λ (xs : OpenLookups). length xs) none ∙ many_of 64 None;
   },
 )
   where

@@ -7,28 +7,28 @@ use Rattle.fib_addr.specs.declared.entry.Hop.{Hop}
 use Rattle.fib_addr.specs.Views.{addr_as}
 use Rattle.poptrie_build.specs.Tries.{visits_of}
 use Rattle.poptrie_update.specs.Lives.{Shows}
-use Rattle.poptrie_update.specs.Reads.{published}
-use Rattle.poptrie_cursor.specs.Cursors.{Opens, Dues, due_of, lookup_of, FitsAll, Goes, GoesFurther}
-use Rattle.poptrie_cursor.specs.declared.cursors.Lookup as code_lookup
-use Rattle.poptrie_cursor.specs.declared.cursors.Stage.{Stage}
-use Rattle.poptrie_cursor.specs.declared.cursors.Stage.TheVariants as stage
-use Rattle.step_model.specs.Machine as machine
-use Rattle.step_model.specs.Machine.{World, State, Lookup, version_at, version_of}
+use Rattle.poptrie_update.specs.Reads.{published_entries}
+use Rattle.poptrie_update.specs.Cursors.{OpenLookups, Dues, due_of, lookup_of, FitsAll, GoesAsDue, GoesFurther}
+use Rattle.poptrie_update.specs.declared.cursors.Lookup as code_lookup
+use Rattle.poptrie_update.specs.declared.cursors.Stage.{Stage}
+use Rattle.poptrie_update.specs.declared.cursors.Stage.TheVariants as stage
+use Rattle.step_script.specs.Machine as machine
+use Rattle.step_script.specs.Machine.{World, State, Lookup, version_at, version_of}
 use Rattle.paused_routes.specs.declared.routes.PausedRoutes.{PausedRoutes}
-use Rattle.paused_routes.specs.Paused.{shown_after, IsStage, IsSame, IsIn, IsAt}
+use Rattle.paused_routes.specs.Paused.{shown_after, IsStage, IsSameLookup, IsFamilyState, IsAt}
 use Rattle.paused_routes.specs.Calls.{GoesTo}
 use Rattle.paused_routes.proofs.Opened.{none_both, some_both, goes_at}
 use Rattle.paused_routes.proofs.Trie.{published_is}
 
-module _ (w : World) (f : Family) (s : State) (p : PausedRoutes) (due : Dues) (h : IsIn w f s p due) (n : ℕ) (c : code_lookup.Lookup) (is : lookup_of p.cursors n ≡ Some c) (k : Lookup) (held : s.lookups f n ≡ Some k) (same : IsSame w f k c (due n)) (r : Option Hop) (after : Opens) where
+module _ (w : World) (f : Family) (s : State) (p : PausedRoutes) (due : Dues) (h : IsFamilyState w f s p due) (n : ℕ) (c : code_lookup.Lookup) (is : lookup_of p.cursors n ≡ Some c) (k : Lookup) (held : s.lookups f n ≡ Some k) (same : IsSameLookup w f k c (due n)) (r : Option Hop) (after : OpenLookups) where
   abbrev Ends : Type 0
   Ends = (t : State) × GoesTo {E = Unit {0}} w s f n (Ok r) t × IsAt w f t (record { tree = p.tree; live = p.live; cursors = after })
 
-  first : c.stage ≡ stage.Word → Goes r (due_of p.live.selected.direct_bits (published p.live (w.routes s.ended) (w.routes (shown_after w f s.ended s.begun)) c.addr) c.addr) n p.live p.cursors after due → Ends
+  first : c.stage ≡ stage.Word → GoesAsDue r (due_of p.live.selected.direct_bits (published_entries p.live (w.routes s.ended) (w.routes (shown_after w f s.ended s.begun)) c.addr) c.addr) n p.live p.cursors after due → Ends
   first e g = goes_at w f s p due n k c (due_of p.live.selected.direct_bits E c.addr) r after h held is same answer (omega (arith, at.0, visits)) g
     where
       E : Entries
-      E = published p.live (w.routes s.ended) (w.routes (shown_after w f s.ended s.begun)) c.addr
+      E = published_entries p.live (w.routes s.ended) (w.routes (shown_after w f s.ended s.begun)) c.addr
 
       at : (k.gone ≡ 0) × (k.version ≡ None)
       at = subst (λ (x : Stage). IsStage w k x (due n)) e same.stage
@@ -60,7 +60,7 @@ module _ (w : World) (f : Family) (s : State) (p : PausedRoutes) (due : Dues) (h
       gone : k.gone + g.0 ≡ visits_of w.direct (w.routes (version_of w s k)) k.addr
       gone = let q : visits_of w.direct (w.routes at.0) k.addr ≡ visits_of w.direct (w.routes (version_of w s k)) k.addr = ap (λ (m : ℕ). visits_of w.direct (w.routes m) k.addr) v in omega (arith, at.3, g.1, q)
 
-  pub on_it : (c.stage ≡ stage.Word → (L M : Entries) (d : Dues) → Shows p.live L M → FitsAll p.live p.cursors d → Goes r (due_of p.live.selected.direct_bits (published p.live L M c.addr) c.addr) n p.live p.cursors after d) → ((c.stage ≡ stage.Word → ⊥) → (d : Dues) → FitsAll p.live p.cursors d → GoesFurther r (d n) n p.live p.cursors after d) → Ends
+  pub on_it : (c.stage ≡ stage.Word → (L M : Entries) (d : Dues) → Shows p.live L M → FitsAll p.live p.cursors d → GoesAsDue r (due_of p.live.selected.direct_bits (published_entries p.live L M c.addr) c.addr) n p.live p.cursors after d) → ((c.stage ≡ stage.Word → ⊥) → (d : Dues) → FitsAll p.live p.cursors d → GoesFurther r (d n) n p.live p.cursors after d) → Ends
   on_it word node = by c.stage refl
     where
       by : (x : Stage) → c.stage ≡ x → Ends
@@ -72,13 +72,13 @@ same_go E w f s n None t g = g
 same_go E w f s n (Some h) t g = g
 
 -- as the code tells
-pub go_at : {E : Type 0} (w : World) (f : Family) (s : State) (p : PausedRoutes) (n : ℕ) (r : Result (Option Hop) E) (after : Opens)
+pub go_at : {E : Type 0} (w : World) (f : Family) (s : State) (p : PausedRoutes) (n : ℕ) (r : Result (Option Hop) E) (after : OpenLookups)
     → OnErr r ((lookup_of p.cursors n ≡ None) × (after ≡ p.cursors))
     → OnOk r ((c : code_lookup.Lookup) × (lookup_of p.cursors n ≡ Some c))
-    → IfOk r (λ r. (c : code_lookup.Lookup) → lookup_of p.cursors n ≡ Some c → c.stage ≡ stage.Word → (L M : Entries) (d : Dues) → Shows p.live L M → FitsAll p.live p.cursors d → Goes r (due_of p.live.selected.direct_bits (published p.live L M c.addr) c.addr) n p.live p.cursors after d)
+    → IfOk r (λ r. (c : code_lookup.Lookup) → lookup_of p.cursors n ≡ Some c → c.stage ≡ stage.Word → (L M : Entries) (d : Dues) → Shows p.live L M → FitsAll p.live p.cursors d → GoesAsDue r (due_of p.live.selected.direct_bits (published_entries p.live L M c.addr) c.addr) n p.live p.cursors after d)
     → IfOk r (λ r. (c : code_lookup.Lookup) → lookup_of p.cursors n ≡ Some c → (c.stage ≡ stage.Word → ⊥) → (d : Dues) → FitsAll p.live p.cursors d → GoesFurther r (d n) n p.live p.cursors after d)
     → IsAt w f s p → (t : State) × GoesTo w s f n r t × IsAt w f t (record { tree = p.tree; live = p.live; cursors = after })
-go_at w f s p n (Err e) after none is word node at = (s, (refl, none_both w f _ _ _ (at.1.same n) none.0, refl), subst (λ (cs : Opens). IsAt w f s (record { tree = p.tree; live = p.live; cursors = cs })) (sym none.1) at)
+go_at w f s p n (Err e) after none is word node at = (s, (refl, none_both w f _ _ _ (at.1.same n) none.0, refl), subst (λ (cs : OpenLookups). IsAt w f s (record { tree = p.tree; live = p.live; cursors = cs })) (sym none.1) at)
 go_at {E = E} w f s p n (Ok r) after none is word node at =
     let k = some_both w f _ _ _ is.0 (at.1.same n) is.1 in
     let y = on_it w f s p at.0 at.1 n is.0 is.1 k.0 k.1 k.2 r after (word is.0 is.1) (node is.0 is.1) in

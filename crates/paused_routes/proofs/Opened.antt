@@ -12,14 +12,14 @@ use Rattle.fib_addr.specs.declared.addr.Addr.{Addr}
 use Rattle.fib_addr.specs.declared.entry.Hop.{Hop}
 use Rattle.fib_addr.specs.Views.{addr_as}
 use Rattle.poptrie_build.specs.Tries.{visits_of}
-use Rattle.poptrie_cursor.specs.Cursors.{Opens, Due, Dues, with_due, lookup_of, FitsAll, IsStarted, IsFull, Goes}
-use Rattle.poptrie_cursor.proofs.Opened.{some_below, with_due_here, with_due_other}
-use Rattle.poptrie_cursor.specs.declared.cursors.Lookup as code_lookup
-use Rattle.poptrie_cursor.specs.declared.cursors.Stage.TheVariants as stage
-use Rattle.step_model.specs.Rows.{printed_number, opened, full}
-use Rattle.step_model.specs.Machine.{World, State, Lookup, with_lookup, version_of, Opens as OpensIn}
+use Rattle.poptrie_update.specs.Cursors.{OpenLookups, Due, Dues, with_due, lookup_of, FitsAll, IsStarted, IsFull, GoesAsDue}
+use Rattle.poptrie_update.proofs.Opened.{some_below, with_due_here, with_due_other}
+use Rattle.poptrie_update.specs.declared.cursors.Lookup as code_lookup
+use Rattle.poptrie_update.specs.declared.cursors.Stage.TheVariants as stage
+use Rattle.step_script.specs.Rows.{printed_number, opened, full}
+use Rattle.step_script.specs.Machine.{World, State, Lookup, with_lookup, version_of, Opens as OpensIn}
 use Rattle.paused_routes.specs.declared.routes.PausedRoutes.{PausedRoutes}
-use Rattle.paused_routes.specs.Paused.{IsSame, AreSame, IsIn, IsAt}
+use Rattle.paused_routes.specs.Paused.{IsSameLookup, AreSame, IsFamilyState, IsAt}
 use Rattle.paused_routes.specs.Calls.{GoesTo, open_row}
 
 same_self : (f : Family) → same_family f f ≡ true
@@ -40,7 +40,7 @@ started_set f n since x lookups here all m k e = elim (cases_eq n m) [
 ]
 
 -- ---- the same in the code
-same_set : (w : World) (f : Family) (lookups : Family → ℕ → Option Lookup) (cs : Opens) (due after : Dues) (n : ℕ) (x : Option Lookup) (y : Option code_lookup.Lookup) → n < length cs → ((m : ℕ) → (m ≡ n → ⊥) → after m ≡ due m) → AreSame w f x y (after n) → ((m : ℕ) → AreSame w f (lookups f m) (lookup_of cs m) (due m)) → (m : ℕ) → AreSame w f (with_lookup f n x lookups f m) (lookup_of (set cs n y) m) (after m)
+same_set : (w : World) (f : Family) (lookups : Family → ℕ → Option Lookup) (cs : OpenLookups) (due after : Dues) (n : ℕ) (x : Option Lookup) (y : Option code_lookup.Lookup) → n < length cs → ((m : ℕ) → (m ≡ n → ⊥) → after m ≡ due m) → AreSame w f x y (after n) → ((m : ℕ) → AreSame w f (lookups f m) (lookup_of cs m) (due m)) → (m : ℕ) → AreSame w f (with_lookup f n x lookups f m) (lookup_of (set cs n y) m) (after m)
 same_set w f lookups cs due after n x y below stay here all m = elim (cases_eq n m) [
   | inl q ↦ subst (λ (j : ℕ). AreSame w f (with_lookup f n x lookups f j) (lookup_of (set cs n y) j) (after j)) q
       (subst (λ (z : Option code_lookup.Lookup). AreSame w f (with_lookup f n x lookups f n) z (after n)) (sym (get_or-set_same cs n y None below))
@@ -60,20 +60,20 @@ both_none w f x None d a e = refl
 both_none w f None (Some c) d a e = absurd a
 both_none w f (Some k) (Some c) d a e = cc
 
-pub some_both : (w : World) (f : Family) (x : Option Lookup) (y : Option code_lookup.Lookup) (d : Due) (c : code_lookup.Lookup) → AreSame w f x y d → y ≡ Some c → (k : Lookup) × (x ≡ Some k) × IsSame w f k c d
+pub some_both : (w : World) (f : Family) (x : Option Lookup) (y : Option code_lookup.Lookup) (d : Due) (c : code_lookup.Lookup) → AreSame w f x y d → y ≡ Some c → (k : Lookup) × (x ≡ Some k) × IsSameLookup w f k c d
 some_both w f None None d c a e = cc
 some_both w f None (Some b) d c a e = absurd a
 some_both w f (Some k) None d c a e = absurd a
-some_both w f (Some k) (Some b) d c a e = let q : b ≡ c = cc in (k, refl, subst (λ (z : code_lookup.Lookup). IsSame w f k z d) q a)
+some_both w f (Some k) (Some b) d c a e = let q : b ≡ c = cc in (k, refl, subst (λ (z : code_lookup.Lookup). IsSameLookup w f k z d) q a)
 
-pub both_some : (w : World) (f : Family) (x : Option Lookup) (y : Option code_lookup.Lookup) (d : Due) (k : Lookup) → AreSame w f x y d → x ≡ Some k → (c : code_lookup.Lookup) × (y ≡ Some c) × IsSame w f k c d
+pub both_some : (w : World) (f : Family) (x : Option Lookup) (y : Option code_lookup.Lookup) (d : Due) (k : Lookup) → AreSame w f x y d → x ≡ Some k → (c : code_lookup.Lookup) × (y ≡ Some c) × IsSameLookup w f k c d
 both_some w f None None d k a e = cc
 both_some w f None (Some b) d k a e = absurd a
 both_some w f (Some j) None d k a e = absurd a
-both_some w f (Some j) (Some b) d k a e = let q : j ≡ k = cc in (b, refl, subst (λ (z : Lookup). IsSame w f z b d) q a)
+both_some w f (Some j) (Some b) d k a e = let q : j ≡ k = cc in (b, refl, subst (λ (z : Lookup). IsSameLookup w f z b d) q a)
 
 -- ---- a look-up is opened
-begins : (w : World) (s : State) (p : PausedRoutes) (a : Addr) (after : Opens) (n : ℕ) → ((due : Dues) → FitsAll p.live p.cursors due → FitsAll p.live after due) → IsStarted p.live a p.cursors after n → IsAt w a.family s p → (t : State) × OpensIn s (addr_as a) (opened (printed_number a.family n)) t × IsAt w a.family t (record { tree = p.tree; live = p.live; cursors = after })
+begins : (w : World) (s : State) (p : PausedRoutes) (a : Addr) (after : OpenLookups) (n : ℕ) → ((due : Dues) → FitsAll p.live p.cursors due → FitsAll p.live after due) → IsStarted p.live a p.cursors after n → IsAt w a.family s p → (t : State) × OpensIn s (addr_as a) (opened (printed_number a.family n)) t × IsAt w a.family t (record { tree = p.tree; live = p.live; cursors = after })
 begins w s p a after n fits is at = (
   t,
   (n, refl, is.few, none_both w f _ _ _ (h.same n) is.free, taken, refl),
@@ -84,9 +84,9 @@ begins w s p a after n fits is at = (
       tree = h.tree;
       trie = h.trie;
       fits = fits due h.fits;
-      same = subst (λ (cs : Opens). (m : ℕ) → AreSame w f (t.lookups f m) (lookup_of cs m) (due m)) (sym is.now) (same_set w f s.lookups p.cursors due due n (Some k) (Some c) below (λ m e. refl) (record { addr = refl; since = h.trie.time; stage = (refl, refl) }) h.same);
+      same = subst (λ (cs : OpenLookups). (m : ℕ) → AreSame w f (t.lookups f m) (lookup_of cs m) (due m)) (sym is.now) (same_set w f s.lookups p.cursors due due n (Some k) (Some c) below (λ m e. refl) (record { addr = refl; since = h.trie.time; stage = (refl, refl) }) h.same);
       started = started_set f n s.ended (Some k) s.lookups here h.started;
-      many = ap (λ (cs : Opens). length cs) is.now ∙ (length-set p.cursors n (Some c) ∙ h.many);
+      many = ap (λ (cs : OpenLookups). length cs) is.now ∙ (length-set p.cursors n (Some c) ∙ h.many);
     },
   ),
 )
@@ -97,7 +97,7 @@ begins w s p a after n fits is at = (
     due : Dues
     due = at.0
 
-    h : IsIn w a.family s p at.0
+    h : IsFamilyState w a.family s p at.0
     h = at.1
 
     k : Lookup
@@ -118,7 +118,7 @@ begins w s p a after n fits is at = (
     here : (j : Lookup) → Some k ≡ Some j → j.since ≤ s.ended
     here j e = let q : k ≡ j = cc in subst (λ (x : Lookup). x.since ≤ s.ended) q (omega arith)
 
-pub opened_at : (w : World) (f : Family) (s : State) (p : PausedRoutes) (a : Addr) (after : Opens) (n : ℕ) → a.family ≡ f → ((due : Dues) → FitsAll p.live p.cursors due → FitsAll p.live after due) → IsStarted p.live a p.cursors after n → IsAt w f s p → (t : State) × OpensIn s (addr_as a) (opened (printed_number f n)) t × IsAt w f t (record { tree = p.tree; live = p.live; cursors = after })
+pub opened_at : (w : World) (f : Family) (s : State) (p : PausedRoutes) (a : Addr) (after : OpenLookups) (n : ℕ) → a.family ≡ f → ((due : Dues) → FitsAll p.live p.cursors due → FitsAll p.live after due) → IsStarted p.live a p.cursors after n → IsAt w f s p → (t : State) × OpensIn s (addr_as a) (opened (printed_number f n)) t × IsAt w f t (record { tree = p.tree; live = p.live; cursors = after })
 opened_at w f s p a after n fam fits is at = subst (λ (g : Family). (t : State) × OpensIn s (addr_as a) (opened (printed_number g n)) t × IsAt w g t (record { tree = p.tree; live = p.live; cursors = after })) fam (begins w s p a after n fits is (subst (λ (g : Family). IsAt w g s p) (sym fam) at))
 
 -- none is
@@ -126,13 +126,13 @@ pub full_at : (w : World) (f : Family) (s : State) (p : PausedRoutes) (a : Addr)
 full_at w f s p a fam is at = (s, ((λ m l e. is m l (both_none w f _ _ _ (at.1.same m) (ap (λ (g : Family). s.lookups g m) (sym fam) ∙ e))), refl), at)
 
 -- as the code tells
-pub open_at : {E : Type 0} (w : World) (f : Family) (s : State) (p : PausedRoutes) (a : Addr) (after : Opens) (r : Result ℕ E) → a.family ≡ p.live.selected.family → ((due : Dues) → FitsAll p.live p.cursors due → FitsAll p.live after due) → IfOk r (IsStarted p.live a p.cursors after) → OnErr r (IsFull p.cursors × (after ≡ p.cursors)) → IsAt w f s p → (t : State) × OpensIn s (addr_as a) (open_row f r) t × IsAt w f t (record { tree = p.tree; live = p.live; cursors = after })
+pub open_at : {E : Type 0} (w : World) (f : Family) (s : State) (p : PausedRoutes) (a : Addr) (after : OpenLookups) (r : Result ℕ E) → a.family ≡ p.live.selected.family → ((due : Dues) → FitsAll p.live p.cursors due → FitsAll p.live after due) → IfOk r (IsStarted p.live a p.cursors after) → OnErr r (IsFull p.cursors × (after ≡ p.cursors)) → IsAt w f s p → (t : State) × OpensIn s (addr_as a) (open_row f r) t × IsAt w f t (record { tree = p.tree; live = p.live; cursors = after })
 open_at w f s p a after (Ok n) fam fits is none at = opened_at w f s p a after n (fam ∙ at.1.trie.family) fits is at
-open_at w f s p a after (Err e) fam fits is none at = subst (λ (cs : Opens). (t : State) × OpensIn s (addr_as a) full t × IsAt w f t (record { tree = p.tree; live = p.live; cursors = cs })) (sym none.1) (full_at w f s p a (fam ∙ at.1.trie.family) none.0 at)
+open_at w f s p a after (Err e) fam fits is none at = subst (λ (cs : OpenLookups). (t : State) × OpensIn s (addr_as a) full t × IsAt w f t (record { tree = p.tree; live = p.live; cursors = cs })) (sym none.1) (full_at w f s p a (fam ∙ at.1.trie.family) none.0 at)
 
 -- ---- a look-up goes on
 -- with this due of it after the go, in the version that it has then
-pub goes_at : (w : World) (f : Family) (s : State) (p : PausedRoutes) (due : Dues) (n : ℕ) (k : Lookup) (c : code_lookup.Lookup) (d : Due) (r : Option Hop) (after : Opens) → IsIn w f s p due → s.lookups f n ≡ Some k → lookup_of p.cursors n ≡ Some c → IsSame w f k c (due n) → d.answer ≡ match_in (w.routes (version_of w s k)) k.addr → k.gone + d.left ≡ visits_of w.direct (w.routes (version_of w s k)) k.addr → Goes r d n p.live p.cursors after due → (t : State) × GoesTo {E = Unit {0}} w s f n (Ok r) t × IsAt w f t (record { tree = p.tree; live = p.live; cursors = after })
+pub goes_at : (w : World) (f : Family) (s : State) (p : PausedRoutes) (due : Dues) (n : ℕ) (k : Lookup) (c : code_lookup.Lookup) (d : Due) (r : Option Hop) (after : OpenLookups) → IsFamilyState w f s p due → s.lookups f n ≡ Some k → lookup_of p.cursors n ≡ Some c → IsSameLookup w f k c (due n) → d.answer ≡ match_in (w.routes (version_of w s k)) k.addr → k.gone + d.left ≡ visits_of w.direct (w.routes (version_of w s k)) k.addr → GoesAsDue r d n p.live p.cursors after due → (t : State) × GoesTo {E = Unit {0}} w s f n (Ok r) t × IsAt w f t (record { tree = p.tree; live = p.live; cursors = after })
 goes_at w f s p due n k c d (Some g) after h held is same answer gone goes = (
   t,
   (k, held, goes.1 ∙ answer, (refl, (k, held, omega (arith, gone, goes.0), ap (hop_at w.hops) (goes.1 ∙ answer), refl))),
@@ -143,9 +143,9 @@ goes_at w f s p due n k c d (Some g) after h held is same answer gone goes = (
       tree = h.tree;
       trie = h.trie;
       fits = goes.3;
-      same = subst (λ (cs : Opens). (m : ℕ) → AreSame w f (t.lookups f m) (lookup_of cs m) (due m)) (sym goes.2) (same_set w f s.lookups p.cursors due due n None None (some_below p.cursors n c is) (λ m e. refl) tt h.same);
+      same = subst (λ (cs : OpenLookups). (m : ℕ) → AreSame w f (t.lookups f m) (lookup_of cs m) (due m)) (sym goes.2) (same_set w f s.lookups p.cursors due due n None None (some_below p.cursors n c is) (λ m e. refl) tt h.same);
       started = started_set f n s.ended None s.lookups (λ j e. absurd (cc)) h.started;
-      many = ap (λ (cs : Opens). length cs) goes.2 ∙ (length-set p.cursors n None ∙ h.many);
+      many = ap (λ (cs : OpenLookups). length cs) goes.2 ∙ (length-set p.cursors n None ∙ h.many);
     },
   ),
 )
@@ -162,9 +162,9 @@ goes_at w f s p due n k c d None after h held is same answer gone goes = (
       tree = h.tree;
       trie = h.trie;
       fits = goes.2;
-      same = subst (λ (cs : Opens). (m : ℕ) → AreSame w f (t.lookups f m) (lookup_of cs m) (with_due n d due m)) (sym now) (same_set w f s.lookups p.cursors due (with_due n d due) n (Some j) (Some b) (some_below p.cursors n c is) (with_due_other n d due) here h.same);
+      same = subst (λ (cs : OpenLookups). (m : ℕ) → AreSame w f (t.lookups f m) (lookup_of cs m) (with_due n d due m)) (sym now) (same_set w f s.lookups p.cursors due (with_due n d due) n (Some j) (Some b) (some_below p.cursors n c is) (with_due_other n d due) here h.same);
       started = started_set f n s.ended (Some j) s.lookups since h.started;
-      many = ap (λ (cs : Opens). length cs) now ∙ (length-set p.cursors n (Some b) ∙ h.many);
+      many = ap (λ (cs : OpenLookups). length cs) now ∙ (length-set p.cursors n (Some b) ∙ h.many);
     },
   ),
 )
@@ -184,8 +184,8 @@ goes_at w f s p due n k c d None after h held is same answer gone goes = (
     t : State
     t = record s { lookups = with_lookup f n (Some j) s.lookups }
 
-    here : IsSame w f j b (with_due n d due n)
-    here = subst (λ (x : Due). IsSame w f j b x) (sym (with_due_here n d due)) (record { addr = same.addr; since = same.since; stage = (version_of w s k, refl, answer, omega (arith, gone)) })
+    here : IsSameLookup w f j b (with_due n d due n)
+    here = subst (λ (x : Due). IsSameLookup w f j b x) (sym (with_due_here n d due)) (record { addr = same.addr; since = same.since; stage = (version_of w s k, refl, answer, omega (arith, gone)) })
 
     since : (i : Lookup) → Some j ≡ Some i → i.since ≤ s.ended
     since i e = let q : j ≡ i = cc in subst (λ (x : Lookup). x.since ≤ s.ended) q (h.started n k held)

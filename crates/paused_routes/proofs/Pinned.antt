@@ -7,8 +7,8 @@ use Rattle.buddy_arena.specs.Space.{Space}
 use Rattle.buddy_arena.specs.declared.arena.Full.{Full}
 use Rattle.poptrie_build.specs.Tries.{node_need, leaf_need}
 use Rattle.poptrie_build.specs.declared.node.Node.{Node}
-use Rattle.poptrie_copy.specs.Asks.{RunsOut}
-use Rattle.poptrie_copy.specs.declared.blocks.Refusal.TheVariants as refusal
+use Rattle.path_copying.specs.Asks.{RunsOut}
+use Rattle.path_copying.specs.declared.blocks.Refusal.TheVariants as refusal
 use Rattle.poptrie_set.specs.Lives.{Seen, ShowsIn}
 use Rattle.poptrie_set.specs.Past.{PastIn}
 use Rattle.poptrie_set.specs.Prepares.{asks_of, GaveBack}
@@ -18,11 +18,11 @@ use Rattle.poptrie_update.specs.Lives.{Living, Shows, ShowsBy}
 use Rattle.poptrie_update.specs.Prepares.{IsRetiredAfter, RunsShort, refusal_in, IsPinned}
 use Rattle.poptrie_update.specs.declared.live.Other.{Other}
 use Rattle.poptrie_update.specs.declared.live.Other.TheVariants as other
-use Rattle.poptrie_cursor.specs.Cursors.{Dues, IsFirst}
+use Rattle.poptrie_update.specs.Cursors.{Dues, IsFirst}
 use Rattle.poptrie_set.specs.Crowds.{IsStill, sum}
-use Rattle.step_model.specs.Machine.{World, State, Lookup, is_in, changes_before, IsCrowded, MayPin}
+use Rattle.step_script.specs.Machine.{World, State, Lookup, changes_family, changes_before, IsCrowded, MayPin}
 use Rattle.paused_routes.specs.declared.routes.PausedRoutes.{PausedRoutes}
-use Rattle.paused_routes.specs.Paused.{needs_before, IsSame, IsIn}
+use Rattle.paused_routes.specs.Paused.{needs_before, IsSameLookup, IsFamilyState}
 use Rattle.paused_routes.proofs.Alike.{node_need_alike, leaf_need_alike}
 use Rattle.paused_routes.proofs.Needs.{needs_since}
 use Rattle.paused_routes.proofs.Opened.{some_both, both_some}
@@ -46,19 +46,19 @@ pub leaf_need_of : (l : Living) (f : Family) (d : ℕ) (L : Entries) → l.selec
 leaf_need_of l f d L e q = ap (λ (g : Family). leaf_need g l.selected.direct_bits L) e ∙ ap (λ (s : ℕ). leaf_need f s L) q
 
 -- the sums of needs since a look-up's start
-crowded_since : (w : World) (f : Family) (need : Entries → ℕ) (order from now since : ℕ) (old new : ℕ) → ((n : ℕ) → is_in f (w.changed n) ≡ false → need (w.routes (suc n)) ≡ need (w.routes n)) → from ≤ now → since ≡ changes_before w f from → old ≡ need (w.routes now) → new ≡ need (w.routes (suc now)) → 2 ^ order ≤ 64 * (sum (drop since (needs_before w f need now)) + old + new) → IsCrowded w f need order from now
+crowded_since : (w : World) (f : Family) (need : Entries → ℕ) (order from now since : ℕ) (old new : ℕ) → ((n : ℕ) → changes_family f (w.changed n) ≡ false → need (w.routes (suc n)) ≡ need (w.routes n)) → from ≤ now → since ≡ changes_before w f from → old ≡ need (w.routes now) → new ≡ need (w.routes (suc now)) → 2 ^ order ≤ 64 * (sum (drop since (needs_before w f need now)) + old + new) → IsCrowded w f need order from now
 crowded_since w f need order from now since old new stays h e o n c =
     let gap : from + (now - from) ≡ now = omega (arith, h) in
     let q : sum (drop since (needs_before w f need now)) ≡ sum (drop (changes_before w f from) (needs_before w f need now)) = ap (λ (k : ℕ). sum (drop k (needs_before w f need now))) e in
     (now - from, gap, omega (arith, c, q, o, n, needs_since w f need stays from (now - from) now gap))
 
-module _ (w : World) (f : Family) (s : State) (p : PausedRoutes) (due : Dues) (h : IsIn w f s p due) (own : is_in f (w.changed s.ended) ≡ true) (quiet : s.begun ≡ None) (first : Oldest) (is : IsFirst first p.cursors) (still : IsStill p.live.selected) (over : (end : ℕ) → p.live.state ≡ other.Retired end → end ≤ p.live.selected.time) (shown : Shows p.live (w.routes s.ended) (w.routes s.ended))
+module _ (w : World) (f : Family) (s : State) (p : PausedRoutes) (due : Dues) (h : IsFamilyState w f s p due) (own : changes_family f (w.changed s.ended) ≡ true) (quiet : s.begun ≡ None) (first : Oldest) (is : IsFirst first p.cursors) (still : IsStill p.live.selected) (over : (end : ℕ) → p.live.state ≡ other.Retired end → end ≤ p.live.selected.time) (shown : Shows p.live (w.routes s.ended) (w.routes s.ended))
     (nodes_crowded : (s : Seen) (L M : Entries) (ns ls : List ℕ) (since : ℕ) (nodes : Space Node) (leaves : Space ℕ) (e : Full) → IsStill s → ShowsIn s L L → PastIn s ns ls → GaveBack since s nodes leaves → RunsOut nodes.order leaves.order (asks_of s.family s.direct_bits L M) (nodes.free, leaves.free) (refusal.Nodes e) → 2 ^ s.nodes.space.order ≤ 64 * (sum (drop since ns) + node_need s.family s.direct_bits L + node_need s.family s.direct_bits M))
     (leaves_crowded : (s : Seen) (L M : Entries) (ns ls : List ℕ) (since : ℕ) (nodes : Space Node) (leaves : Space ℕ) (e : Full) → IsStill s → ShowsIn s L L → PastIn s ns ls → GaveBack since s nodes leaves → RunsOut nodes.order leaves.order (asks_of s.family s.direct_bits L M) (nodes.free, leaves.free) (refusal.Leaves e) → 2 ^ s.leaves.space.order ≤ 64 * (sum (drop since ls) + leaf_need s.family s.direct_bits L + leaf_need s.family s.direct_bits M)) where
-  node_stays : (n : ℕ) → is_in f (w.changed n) ≡ false → node_need f w.direct (w.routes (suc n)) ≡ node_need f w.direct (w.routes n)
+  node_stays : (n : ℕ) → changes_family f (w.changed n) ≡ false → node_need f w.direct (w.routes (suc n)) ≡ node_need f w.direct (w.routes n)
   node_stays n e = node_need_alike f w.direct (w.routes (suc n)) (w.routes n) (h.world.stays n e)
 
-  leaf_stays : (n : ℕ) → is_in f (w.changed n) ≡ false → leaf_need f w.direct (w.routes (suc n)) ≡ leaf_need f w.direct (w.routes n)
+  leaf_stays : (n : ℕ) → changes_family f (w.changed n) ≡ false → leaf_need f w.direct (w.routes (suc n)) ≡ leaf_need f w.direct (w.routes n)
   leaf_stays n e = leaf_need_alike f w.direct (w.routes (suc n)) (w.routes n) (h.world.stays n e)
 
   node_need_is : (E : Entries) → node_need p.live.selected.family p.live.selected.direct_bits E ≡ node_need f w.direct E
@@ -102,7 +102,7 @@ module _ (w : World) (f : Family) (s : State) (p : PausedRoutes) (due : Dues) (h
       began : IsFirst (oldest.Started cursor since) p.cursors
       began = subst (λ (o : Oldest). IsFirst o p.cursors) pin.1 is
 
-      both : (k : Lookup) × (s.lookups f cursor ≡ Some k) × IsSame w f k began.0.0 (due cursor)
+      both : (k : Lookup) × (s.lookups f cursor ≡ Some k) × IsSameLookup w f k began.0.0 (due cursor)
       both = some_both w f _ _ _ began.0.0 (h.same cursor) began.0.1
 
       k : Lookup

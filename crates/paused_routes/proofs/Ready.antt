@@ -13,15 +13,15 @@ use Rattle.buddy_arena.specs.declared.arena.Full.{Full}
 use Rattle.poptrie_build.specs.Tries.{node_need, leaf_need, IsTooMuch}
 use Rattle.poptrie_build.specs.declared.filling.TrieFull.{TrieFull}
 use Rattle.poptrie_build.specs.declared.node.Node.{Node}
-use Rattle.poptrie_copy.specs.Asks.{RunsOut}
-use Rattle.poptrie_copy.specs.declared.blocks.Refusal.TheVariants as refusal
+use Rattle.path_copying.specs.Asks.{RunsOut}
+use Rattle.path_copying.specs.declared.blocks.Refusal.TheVariants as refusal
 use Rattle.poptrie_set.specs.Lives.{Seen, ShowsIn, IsTooMuchFor}
 use Rattle.poptrie_set.specs.Past.{PastIn}
 use Rattle.poptrie_set.specs.Prepares.{AgreeOutside, asks_of, GaveBack}
 use Rattle.poptrie_set.specs.declared.trie_set.Oldest.{Oldest}
 use Rattle.poptrie_update.specs.Lives.{Living, Shows, Past, HasShapeOf, is_pending, made_of}
 use Rattle.poptrie_update.specs.Fits.{Open, Fits, IsOldest}
-use Rattle.poptrie_update.specs.Prepares.{IsRefused, IsMadeIn}
+use Rattle.poptrie_update.specs.Prepares.{IsNotReady, IsMadeIn}
 use Rattle.poptrie_update.specs.Pendings.{IsTokenBy}
 use Rattle.poptrie_update.specs.declared.pending.Stores as code_stores
 use Rattle.poptrie_update.specs.declared.pending.Stores.TheVariants as stores
@@ -29,13 +29,13 @@ use Rattle.poptrie_update.proofs.Pair.{words_shown}
 use Rattle.poptrie_update.specs.declared.live.Other.TheVariants as other
 use Rattle.poptrie_update.specs.declared.pending.NotReady.{NotReady}
 use Rattle.poptrie_update.specs.declared.pending.NotReady.TheVariants as why
-use Rattle.poptrie_cursor.specs.Cursors.{Dues, FitsAll, IsFirst}
-use Rattle.poptrie_cursor.proofs.Opened.{since_fits}
+use Rattle.poptrie_update.specs.Cursors.{Dues, FitsAll, IsFirst}
+use Rattle.poptrie_update.proofs.Opened.{since_fits}
 use Rattle.poptrie_set.specs.Crowds.{IsStill, sum}
-use Rattle.step_model.specs.Machine.{World, State, Begun, HasRoom, is_in}
+use Rattle.step_script.specs.Machine.{World, State, Begun, HasRoom, changes_family}
 use Rattle.paused_routes.specs.declared.routes.PausedRoutes.{PausedRoutes}
-use Rattle.paused_routes.specs.Paused.{is_own, shown_after, stores_in, IsBegun, IsIn}
-use Rattle.paused_routes.specs.Calls.{begun_with, IsNext, IsHindered, IsTooMany}
+use Rattle.paused_routes.specs.Paused.{is_own, shown_after, stores_in, IsBegun, IsFamilyState}
+use Rattle.paused_routes.specs.Calls.{begun_with, IsNext, IsHindered, IsTrieTooSmall}
 use Rattle.paused_routes.proofs.Pinned.{node_need_of, leaf_need_of, pinned_in}
 
 pub ok_of : {A E : Type 0} (r : Result A E) (P : Type 0) → is_err r ≡ false → OnOk r P → P
@@ -49,9 +49,9 @@ pub record Readies (first : Oldest) (l r : Living) : Type 0 where
   pub fits : (os : List Open) → IsOldest first os → Fits l os → Fits r os
   pub past : (ns ls : List ℕ) → Past l ns ls → Past r ns ls
 
-module _ (w : World) (f : Family) (s : State) (p : PausedRoutes) (due : Dues) (h : IsIn w f s p due) (at : Prefix) (hop : ℕ) (next : IsNext w s at hop p.tree.routes) (fam : at.family ≡ f) where
-  pub own : is_in f (w.changed s.ended) ≡ true
-  own = ap (is_in f) next.changed ∙ (ap (same_family f) fam ∙ same_family_itself f)
+module _ (w : World) (f : Family) (s : State) (p : PausedRoutes) (due : Dues) (h : IsFamilyState w f s p due) (at : Prefix) (hop : ℕ) (next : IsNext w s at hop p.tree.routes) (fam : at.family ≡ f) where
+  pub own : changes_family f (w.changed s.ended) ≡ true
+  own = ap (changes_family f) next.changed ∙ (ap (same_family f) fam ∙ same_family_itself f)
 
   pub shown : Shows p.live (w.routes s.ended) (w.routes s.ended)
   shown = subst (λ (b : Option Begun). Shows p.live (w.routes s.ended) (w.routes (shown_after w f s.ended b))) next.quiet h.trie.shows
@@ -72,7 +72,7 @@ module _ (w : World) (f : Family) (s : State) (p : PausedRoutes) (due : Dues) (h
   fits_on : (first : Oldest) (r : Living) → IsFirst first p.cursors → Readies first p.live r → FitsAll r p.cursors due
   fits_on first r is k = since_fits first p.live r p.cursors due is (record { shape = k.shape; time = omega (arith, k.time); reads = k.fits }) h.fits
 
-  pub begun_in : (t : Labels) (first : Oldest) (r : Living) → t.family ≡ p.tree.family → t.routes ≡ with_route at hop p.tree.routes → t.before ≡ p.tree.routes → IsFirst first p.cursors → Readies first p.live r → is_pending r ≡ true → made_of r ≡ 0 → Shows r (w.routes s.ended) (w.routes (suc s.ended)) → IsIn w f (begun_with (stores_in r.state r.selected) s) (record { tree = t; live = r; cursors = p.cursors }) due
+  pub begun_in : (t : Labels) (first : Oldest) (r : Living) → t.family ≡ p.tree.family → t.routes ≡ with_route at hop p.tree.routes → t.before ≡ p.tree.routes → IsFirst first p.cursors → Readies first p.live r → is_pending r ≡ true → made_of r ≡ 0 → Shows r (w.routes s.ended) (w.routes (suc s.ended)) → IsFamilyState w f (begun_with (stores_in r.state r.selected) s) (record { tree = t; live = r; cursors = p.cursors }) due
   begun_in t first r e q b is k waits made sh = record {
     world = h.world;
     tree = record { family = e ∙ h.tree.family; routes = later t q ∙ sym after; before = λ o. ap (all_answers f) b ∙ now };
@@ -93,14 +93,14 @@ module _ (w : World) (f : Family) (s : State) (p : PausedRoutes) (due : Dues) (h
     many = h.many;
   }
     where
-      own_next : cond (is_in f (w.changed s.ended)) (suc s.ended) s.ended ≡ suc s.ended
+      own_next : cond (changes_family f (w.changed s.ended)) (suc s.ended) s.ended ≡ suc s.ended
       own_next = ap (λ (c : Bool). cond c (suc s.ended) s.ended) own
 
-      after : all_answers f (w.routes (cond (is_in f (w.changed s.ended)) (suc s.ended) s.ended)) ≡ all_answers f (w.routes (suc s.ended))
+      after : all_answers f (w.routes (cond (changes_family f (w.changed s.ended)) (suc s.ended) s.ended)) ≡ all_answers f (w.routes (suc s.ended))
       after = ap (λ (n : ℕ). all_answers f (w.routes n)) own_next
 
   -- all stays but for what was given back
-  pub still_in : (t : Labels) (first : Oldest) (r : Living) → t.family ≡ p.tree.family → t.routes ≡ p.tree.routes → IsFirst first p.cursors → Readies first p.live r → is_pending r ≡ false → ((L M : Entries) → Shows p.live L M → Shows r L M) → IsIn w f s (record { tree = t; live = r; cursors = p.cursors }) due
+  pub still_in : (t : Labels) (first : Oldest) (r : Living) → t.family ≡ p.tree.family → t.routes ≡ p.tree.routes → IsFirst first p.cursors → Readies first p.live r → is_pending r ≡ false → ((L M : Entries) → Shows p.live L M → Shows r L M) → IsFamilyState w f s (record { tree = t; live = r; cursors = p.cursors }) due
   still_in t first r e q is k quiet sh = record {
     world = h.world;
     tree = record { family = e ∙ h.tree.family; routes = ap (all_answers f) q ∙ h.tree.routes; before = λ o. let z : is_own w f s.ended s.begun ≡ false = ap (is_own w f s.ended) next.quiet in absurd (cc) };
@@ -138,7 +138,7 @@ module _ (w : World) (f : Family) (s : State) (p : PausedRoutes) (due : Dues) (h
       (omega (arith, made.1.1.nodes_fit, n, a), omega (arith, made.1.1.leaves_fit, l, b))
 
   -- why it isn't
-  too_many : (t : TrieFull) → IsTooMuchFor p.live.selected (w.routes (suc s.ended)) t → IsTooMany f w.direct w.nodes w.leaves (w.routes (suc s.ended)) t
+  too_many : (t : TrieFull) → IsTooMuchFor p.live.selected (w.routes (suc s.ended)) t → IsTrieTooSmall f w.direct w.nodes w.leaves (w.routes (suc s.ended)) t
   too_many t x =
       subst (λ (o : ℕ). IsTooMuch t.arena t.need t.have (node_need f w.direct (w.routes (suc s.ended))) (leaf_need f w.direct (w.routes (suc s.ended))) (2 ^ w.nodes) (2 ^ o)) h.trie.leaf_order
       (subst (λ (o : ℕ). IsTooMuch t.arena t.need t.have (node_need f w.direct (w.routes (suc s.ended))) (leaf_need f w.direct (w.routes (suc s.ended))) (2 ^ o) (2 ^ p.live.selected.leaves.space.order)) h.trie.node_order
@@ -148,7 +148,7 @@ module _ (w : World) (f : Family) (s : State) (p : PausedRoutes) (due : Dues) (h
   pub hindered_in : (first : Oldest) → IsFirst first p.cursors → IsStill p.live.selected → ((end : ℕ) → p.live.state ≡ other.Retired end → end ≤ p.live.selected.time)
       → ((s : Seen) (L M : Entries) (ns ls : List ℕ) (since : ℕ) (nodes : Space Node) (leaves : Space ℕ) (e : Full) → IsStill s → ShowsIn s L L → PastIn s ns ls → GaveBack since s nodes leaves → RunsOut nodes.order leaves.order (asks_of s.family s.direct_bits L M) (nodes.free, leaves.free) (refusal.Nodes e) → 2 ^ s.nodes.space.order ≤ 64 * (sum (drop since ns) + node_need s.family s.direct_bits L + node_need s.family s.direct_bits M))
       → ((s : Seen) (L M : Entries) (ns ls : List ℕ) (since : ℕ) (nodes : Space Node) (leaves : Space ℕ) (e : Full) → IsStill s → ShowsIn s L L → PastIn s ns ls → GaveBack since s nodes leaves → RunsOut nodes.order leaves.order (asks_of s.family s.direct_bits L M) (nodes.free, leaves.free) (refusal.Leaves e) → 2 ^ s.leaves.space.order ≤ 64 * (sum (drop since ls) + leaf_need s.family s.direct_bits L + leaf_need s.family s.direct_bits M))
-      → (e : NotReady) → IsRefused first e p.live (w.routes s.ended) (w.routes (suc s.ended)) → IsHindered w s f e
+      → (e : NotReady) → IsNotReady first e p.live (w.routes s.ended) (w.routes (suc s.ended)) → IsHindered w s f e
   hindered_in first is still over nodes leaves why.Memory r = tt
   hindered_in first is still over nodes leaves (why.TooMuch t) r = too_many t r
   hindered_in first is still over nodes leaves (why.Pinned need cursor arena largest) r = pinned_in w f s p due h own next.quiet first is still over shown nodes leaves need cursor arena r.0 r.2

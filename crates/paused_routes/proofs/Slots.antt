@@ -14,13 +14,13 @@ use Rattle.poptrie_build.specs.Keys.{key_as}
 use Rattle.poptrie_build.specs.Strides.{address}
 use Rattle.poptrie_build.proofs.Bits.{bits_take, short}
 use Rattle.poptrie_build.proofs.Filled.{key_is, at_most_128}
-use Rattle.poptrie_set.specs.Lives.{Seen, Store, covers}
+use Rattle.poptrie_set.specs.Lives.{Seen, Store, stores_cover}
 use Rattle.poptrie_set.specs.First.{slot_of}
-use Rattle.poptrie_update.specs.Lives.{made_by}
+use Rattle.poptrie_update.specs.Lives.{stores_made}
 use Rattle.poptrie_update.specs.Reads.{covers_by}
 use Rattle.poptrie_update.specs.declared.live.Other.{Other}
 use Rattle.poptrie_update.specs.declared.live.Other.TheVariants as other
-use Rattle.step_model.specs.Machine as machine
+use Rattle.step_script.specs.Machine as machine
 use Rattle.paused_routes.specs.Paused.{stores_in}
 
 -- ---- the slot of an address is the number that its first bits are
@@ -57,12 +57,12 @@ eq_comm n m = elim (cases_eq n m) [
   | inr e ↦ ne_eqb n m e ∙ sym (ne_eqb m n (λ q. e (sym q)))
 ]
 
-pub covers_words : (made : ℕ) (stores : List Store) (v : ℕ) → covers (take made stores) v ≡ list_any (nat_eq v) (take made (map (λ (x : ℕ × ℕ). x.0) stores))
+pub covers_words : (made : ℕ) (stores : List Store) (v : ℕ) → stores_cover (take made stores) v ≡ list_any (nat_eq v) (take made (map (λ (x : ℕ × ℕ). x.0) stores))
 covers_words zero stores v = refl
 covers_words (suc made) [] v = refl
-covers_words (suc made) (x ∷ stores) v = ap (λ (b : Bool). b || covers (take made stores) v) (eq_comm x.0 v) ∙ ap (λ (b : Bool). nat_eq v x.0 || b) (covers_words made stores v)
+covers_words (suc made) (x ∷ stores) v = ap (λ (b : Bool). b || stores_cover (take made stores) v) (eq_comm x.0 v) ∙ ap (λ (b : Bool). nat_eq v x.0 || b) (covers_words made stores v)
 
-pub covers_is : (o : Other) (s : Seen) (v : ℕ) → covers_by o s v ≡ machine.covers (stores_in o s) (made_by o s.made) v
+pub covers_is : (o : Other) (s : Seen) (v : ℕ) → covers_by o s v ≡ machine.covers (stores_in o s) (stores_made o s.made) v
 covers_is other.Free s v = covers_words s.made s.stores v
 covers_is (other.Retired end) s v = covers_words s.made s.stores v
 covers_is other.Built s v = refl

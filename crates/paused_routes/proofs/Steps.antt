@@ -9,12 +9,12 @@ use Rattle.poptrie_build.specs.Tries.{node_need, leaf_need}
 use Rattle.poptrie_update.specs.Lives.{Living, Shows, Past, HasShapeOf, KeepsStores, is_pending, stores_left, made_of}
 use Rattle.poptrie_update.specs.Fits.{Open, Fits}
 use Rattle.poptrie_update.specs.declared.pending.Pending.{Pending}
-use Rattle.poptrie_cursor.proofs.Opened.{kept_fits}
-use Rattle.poptrie_cursor.specs.Cursors.{Dues}
-use Rattle.step_model.specs.Rows.{stored, nothing, ended, left, cancelled, late}
-use Rattle.step_model.specs.Machine.{World, State, Begun, Lookup, count_of, is_in, changes_before, StoresOne, Ends, Cancels}
+use Rattle.poptrie_update.proofs.Opened.{kept_fits}
+use Rattle.poptrie_update.specs.Cursors.{Dues}
+use Rattle.step_script.specs.Rows.{stored, nothing, ended, left, cancelled, late}
+use Rattle.step_script.specs.Machine.{World, State, Begun, Lookup, count_of, changes_family, changes_before, StoresOne, EndsEvent, Cancels}
 use Rattle.paused_routes.specs.declared.routes.PausedRoutes.{PausedRoutes}
-use Rattle.paused_routes.specs.Paused.{shown_after, needs_before, IsUnderWay, IsIn, IsAt}
+use Rattle.paused_routes.specs.Paused.{shown_after, needs_before, IsUnderWay, IsFamilyState, IsAt}
 use Rattle.paused_routes.specs.Calls.{store_row, end_row}
 use Rattle.paused_routes.proofs.Trie.{own_begun, counted, kept_stores}
 
@@ -24,7 +24,7 @@ pub record Keeps (l r : Living) : Type 0 where
   pub fits : (os : List Open) → Fits l os → Fits r os
 
 -- ---- with what is begun at hand
-module _ (w : World) (f : Family) (n : ℕ) (x : Begun) (lookups : Family → ℕ → Option Lookup) (p : PausedRoutes) (due : Dues) (own : is_in f (w.changed n) ≡ true) (h : IsIn w f (record { ended = n; begun = Some x; lookups = lookups }) p due) (u : IsUnderWay p.live x) where
+module _ (w : World) (f : Family) (n : ℕ) (x : Begun) (lookups : Family → ℕ → Option Lookup) (p : PausedRoutes) (due : Dues) (own : changes_family f (w.changed n) ≡ true) (h : IsFamilyState w f (record { ended = n; begun = Some x; lookups = lookups }) p due) (u : IsUnderWay p.live x) where
   all : stores_left p.live + x.made ≡ count_of x.stores
   all = ap (λ (m : ℕ). stores_left p.live + m) u.made ∙ (counted p.live _ _ h.trie.shows ∙ ap count_of (sym u.stores))
 
@@ -45,7 +45,7 @@ module _ (w : World) (f : Family) (n : ℕ) (x : Begun) (lookups : Family → �
   pub no_more : stores_left p.live ≡ 0 → count_of x.stores ≤ x.made
   no_more l = omega (arith, all, l)
 
-  pub stored_in : (r : Living) → Keeps p.live r → r.selected.time ≡ p.live.selected.time → is_pending r ≡ true → made_of r ≡ suc (made_of p.live) → KeepsStores p.live r → ((L M : Entries) → Shows p.live L M → Shows r L M) → ((ns ls : List ℕ) → Past p.live ns ls → Past r ns ls) → IsIn w f (record { ended = n; begun = Some (record x { made = suc x.made }); lookups = lookups }) (record { tree = p.tree; live = r; cursors = p.cursors }) due
+  pub stored_in : (r : Living) → Keeps p.live r → r.selected.time ≡ p.live.selected.time → is_pending r ≡ true → made_of r ≡ suc (made_of p.live) → KeepsStores p.live r → ((L M : Entries) → Shows p.live L M → Shows r L M) → ((ns ls : List ℕ) → Past p.live ns ls → Past r ns ls) → IsFamilyState w f (record { ended = n; begun = Some (record x { made = suc x.made }); lookups = lookups }) (record { tree = p.tree; live = r; cursors = p.cursors }) due
   stored_in r keeps time waits made stays shows past = record {
     world = h.world;
     tree = record { family = h.tree.family; routes = h.tree.routes; before = h.tree.before };
@@ -66,7 +66,7 @@ module _ (w : World) (f : Family) (n : ℕ) (x : Begun) (lookups : Family → �
     many = h.many;
   }
 
-  pub ended_in : (r : Living) → Keeps p.live r → r.selected.time ≡ suc p.live.selected.time → is_pending r ≡ false → ((L M : Entries) → Shows p.live L M → Shows r M M) → ((L M : Entries) (ns ls : List ℕ) → Shows p.live L M → Past p.live ns ls → Past r (ns ++ node_need p.live.selected.family p.live.selected.direct_bits L ∷ []) (ls ++ leaf_need p.live.selected.family p.live.selected.direct_bits L ∷ [])) → IsIn w f (record { ended = suc n; begun = None; lookups = lookups }) (record { tree = p.tree; live = r; cursors = p.cursors }) due
+  pub ended_in : (r : Living) → Keeps p.live r → r.selected.time ≡ suc p.live.selected.time → is_pending r ≡ false → ((L M : Entries) → Shows p.live L M → Shows r M M) → ((L M : Entries) (ns ls : List ℕ) → Shows p.live L M → Past p.live ns ls → Past r (ns ++ node_need p.live.selected.family p.live.selected.direct_bits L ∷ []) (ls ++ leaf_need p.live.selected.family p.live.selected.direct_bits L ∷ [])) → IsFamilyState w f (record { ended = suc n; begun = None; lookups = lookups }) (record { tree = p.tree; live = r; cursors = p.cursors }) due
   ended_in r keeps time quiet shows past = record {
     world = h.world;
     tree = record { family = h.tree.family; routes = h.tree.routes ∙ ap (all_answers f) after; before = λ e. absurd (cc) };
@@ -91,7 +91,7 @@ module _ (w : World) (f : Family) (n : ℕ) (x : Begun) (lookups : Family → �
     many = h.many;
   }
 
-  pub cancelled_in : (t : Labels) (r : Living) → t.family ≡ p.tree.family → t.routes ≡ p.tree.before → Keeps p.live r → r.selected.time ≡ p.live.selected.time → is_pending r ≡ false → ((L M : Entries) → Shows p.live L M → Shows r L L) → ((ns ls : List ℕ) → Past p.live ns ls → Past r ns ls) → IsIn w f (record { ended = n; begun = None; lookups = lookups }) (record { tree = t; live = r; cursors = p.cursors }) due
+  pub cancelled_in : (t : Labels) (r : Living) → t.family ≡ p.tree.family → t.routes ≡ p.tree.before → Keeps p.live r → r.selected.time ≡ p.live.selected.time → is_pending r ≡ false → ((L M : Entries) → Shows p.live L M → Shows r L L) → ((ns ls : List ℕ) → Past p.live ns ls → Past r ns ls) → IsFamilyState w f (record { ended = n; begun = None; lookups = lookups }) (record { tree = t; live = r; cursors = p.cursors }) due
   cancelled_in t r fam back keeps time quiet shows past = record {
     world = h.world;
     tree = record { family = fam ∙ h.tree.family; routes = ap (all_answers f) back ∙ h.tree.before own; before = λ e. absurd (cc) };
@@ -114,11 +114,11 @@ module _ (w : World) (f : Family) (n : ℕ) (x : Begun) (lookups : Family → �
 
 -- ---- as the code tells
 -- the event that is begun, of a state in which an update is pending
-begun_of : (w : World) (f : Family) (s : State) (p : PausedRoutes) → IsAt w f s p → is_pending p.live ≡ true → (x : Begun) × (s.begun ≡ Some x) × (is_in f (w.changed s.ended) ≡ true) × IsUnderWay p.live x
+begun_of : (w : World) (f : Family) (s : State) (p : PausedRoutes) → IsAt w f s p → is_pending p.live ≡ true → (x : Begun) × (s.begun ≡ Some x) × (changes_family f (w.changed s.ended) ≡ true) × IsUnderWay p.live x
 begun_of w f s p at e = own_begun w f s.ended p.live s.begun at.1.trie.begun e
 
-with_begun : (w : World) (f : Family) (s : State) (p : PausedRoutes) (x : Begun) (at : IsAt w f s p) → s.begun ≡ Some x → IsIn w f (record { ended = s.ended; begun = Some x; lookups = s.lookups }) p at.0
-with_begun w f s p x at q = subst (λ (b : Option Begun). IsIn w f (record { ended = s.ended; begun = b; lookups = s.lookups }) p at.0) q at.1
+with_begun : (w : World) (f : Family) (s : State) (p : PausedRoutes) (x : Begun) (at : IsAt w f s p) → s.begun ≡ Some x → IsFamilyState w f (record { ended = s.ended; begun = Some x; lookups = s.lookups }) p at.0
+with_begun w f s p x at q = subst (λ (b : Option Begun). IsFamilyState w f (record { ended = s.ended; begun = b; lookups = s.lookups }) p at.0) q at.1
 
 pub store_at : (w : World) (f : Family) (s : State) (p : PausedRoutes) (r : Living) (done : Bool)
     → is_pending p.live ≡ true → is_pending r ≡ true
@@ -144,18 +144,18 @@ pub ends_at : (w : World) (f : Family) (s : State) (p : PausedRoutes) (r : Livin
     → Keeps p.live r → r.selected.time ≡ suc p.live.selected.time
     → ((L M : Entries) → Shows p.live L M → Shows r M M)
     → ((L M : Entries) (ns ls : List ℕ) → Shows p.live L M → Past p.live ns ls → Past r (ns ++ node_need p.live.selected.family p.live.selected.direct_bits L ∷ []) (ls ++ leaf_need p.live.selected.family p.live.selected.direct_bits L ∷ []))
-    → IsAt w f s p → (t : State) × Ends s s.begun ended t × IsAt w f t (record { tree = p.tree; live = r; cursors = p.cursors })
+    → IsAt w f s p → (t : State) × EndsEvent s s.begun ended t × IsAt w f t (record { tree = p.tree; live = r; cursors = p.cursors })
 ends_at w f s p r waits none quiet keeps time shows past at =
     let b = begun_of w f s p at waits in
     let h = with_begun w f s p b.0 at b.1 in
     let t : State = record s { ended = suc s.ended; begun = None } in
-    (t, subst (λ (x : Option Begun). Ends s x ended t) (sym b.1) (no_more w f s.ended b.0 s.lookups p at.0 b.2 h b.3 none, refl), (at.0, ended_in w f s.ended b.0 s.lookups p at.0 b.2 h b.3 r keeps time quiet shows past))
+    (t, subst (λ (x : Option Begun). EndsEvent s x ended t) (sym b.1) (no_more w f s.ended b.0 s.lookups p at.0 b.2 h b.3 none, refl), (at.0, ended_in w f s.ended b.0 s.lookups p at.0 b.2 h b.3 r keeps time quiet shows past))
 
-pub left_at : (w : World) (f : Family) (s : State) (p : PausedRoutes) → is_pending p.live ≡ true → 0 < stores_left p.live → IsAt w f s p → (t : State) × Ends s s.begun left t × IsAt w f t p
+pub left_at : (w : World) (f : Family) (s : State) (p : PausedRoutes) → is_pending p.live ≡ true → 0 < stores_left p.live → IsAt w f s p → (t : State) × EndsEvent s s.begun left t × IsAt w f t p
 left_at w f s p waits some at =
     let b = begun_of w f s p at waits in
     let h = with_begun w f s p b.0 at b.1 in
-    (s, subst (λ (x : Option Begun). Ends s x left s) (sym b.1) (more w f s.ended b.0 s.lookups p at.0 b.2 h b.3 some, refl), at)
+    (s, subst (λ (x : Option Begun). EndsEvent s x left s) (sym b.1) (more w f s.ended b.0 s.lookups p at.0 b.2 h b.3 some, refl), at)
 
 pub cancels_at : (w : World) (f : Family) (s : State) (p : PausedRoutes) (t : Labels) (r : Living)
     → is_pending p.live ≡ true → made_of p.live ≡ 0 → is_pending r ≡ false
@@ -181,6 +181,6 @@ pub end_at : (A : Type 0) (w : World) (f : Family) (s : State) (p : PausedRoutes
     → HasShapeOf p.live r → OnOk result ((os : List Open) → Fits p.live os → Fits r os)
     → OnOk result ((L M : Entries) → Shows p.live L M → Shows r M M)
     → OnOk result ((L M : Entries) (ns ls : List ℕ) → Shows p.live L M → Past p.live ns ls → Past r (ns ++ node_need p.live.selected.family p.live.selected.direct_bits L ∷ []) (ls ++ leaf_need p.live.selected.family p.live.selected.direct_bits L ∷ []))
-    → IsAt w f s p → (t : State) × Ends s s.begun (end_row result) t × IsAt w f t (record { tree = p.tree; live = r; cursors = p.cursors })
+    → IsAt w f s p → (t : State) × EndsEvent s s.begun (end_row result) t × IsAt w f t (record { tree = p.tree; live = r; cursors = p.cursors })
 end_at A w f s p token r (Ok a) waits over quiet time back shape fits shows past at = ends_at w f s p r waits over quiet (record { shape = shape; fits = fits }) time shows past at
-end_at A w f s p token r (Err e) waits over quiet time back shape fits shows past at = subst (λ (l : Living). (t : State) × Ends s s.begun left t × IsAt w f t (record { tree = p.tree; live = l; cursors = p.cursors })) (sym back.1) (left_at w f s p waits back.2 at)
+end_at A w f s p token r (Err e) waits over quiet time back shape fits shows past at = subst (λ (l : Living). (t : State) × EndsEvent s s.begun left t × IsAt w f t (record { tree = p.tree; live = l; cursors = p.cursors })) (sym back.1) (left_at w f s p waits back.2 at)

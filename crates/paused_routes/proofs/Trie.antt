@@ -7,16 +7,16 @@ use Rattle.fib_addr.specs.declared.addr.Addr.{Addr}
 use Rattle.fib_addr.specs.Views.{addr_as}
 use Rattle.poptrie_set.specs.Lives.{Seen, Store}
 use Rattle.poptrie_set.specs.First.{slot_of}
-use Rattle.poptrie_update.specs.Lives.{Living, Shows, ShowsBy, KeepsBy, is_pending, is_selecting, stores_left, left_by, made_of, made_by}
-use Rattle.poptrie_update.specs.Reads.{covers_by, published}
+use Rattle.poptrie_update.specs.Lives.{Living, Shows, ShowsBy, KeepsBy, is_pending, is_selecting, stores_left, left_by, made_of, stores_made}
+use Rattle.poptrie_update.specs.Reads.{covers_by, published_entries}
 use Rattle.poptrie_update.specs.Pendings.{IsTokenBy, IsTokenOf, IsSelectorOf}
 use Rattle.poptrie_update.specs.declared.live.Other.{Other}
 use Rattle.poptrie_update.specs.declared.live.Other.TheVariants as other
 use Rattle.poptrie_update.specs.declared.pending.Pending.{Pending}
 use Rattle.poptrie_update.specs.declared.pending.Stores as code_stores
 use Rattle.poptrie_update.specs.declared.pending.Stores.TheVariants as stores
-use Rattle.step_model.specs.Machine as machine
-use Rattle.step_model.specs.Machine.{World, Begun, Stores, count_of, is_in}
+use Rattle.step_script.specs.Machine as machine
+use Rattle.step_script.specs.Machine.{World, Begun, Stores, count_of, changes_family}
 use Rattle.paused_routes.specs.Paused.{shown_after, stores_in, IsUnderWay, IsBegun, IsTrieAt}
 use Rattle.paused_routes.proofs.Slots.{slot_is, covers_is}
 
@@ -35,11 +35,11 @@ pub is_waiting : (p : Pending) (l : Living) → IsTokenOf p l → is_pending l �
 is_waiting p l t = pending_by p.stores l t
 
 -- ---- the event that is begun
-pub own_begun : (w : World) (f : Family) (n : ℕ) (l : Living) (b : Option Begun) → IsBegun w f n l b → is_pending l ≡ true → (x : Begun) × (b ≡ Some x) × (is_in f (w.changed n) ≡ true) × IsUnderWay l x
+pub own_begun : (w : World) (f : Family) (n : ℕ) (l : Living) (b : Option Begun) → IsBegun w f n l b → is_pending l ≡ true → (x : Begun) × (b ≡ Some x) × (changes_family f (w.changed n) ≡ true) × IsUnderWay l x
 own_begun w f n l None h e = absurd (cc)
-own_begun w f n l (Some x) h e = by (is_in f (w.changed n)) refl
+own_begun w f n l (Some x) h e = by (changes_family f (w.changed n)) refl
   where
-    by : (i : Bool) → is_in f (w.changed n) ≡ i → (y : Begun) × (Some x ≡ Some y) × (is_in f (w.changed n) ≡ true) × IsUnderWay l y
+    by : (i : Bool) → changes_family f (w.changed n) ≡ i → (y : Begun) × (Some x ≡ Some y) × (changes_family f (w.changed n) ≡ true) × IsUnderWay l y
     by true q = (x, refl, q, h.0 q)
     by false q = let z : is_pending l ≡ false = h.1 q in absurd (cc)
 
@@ -48,7 +48,7 @@ map_length : (s : List Store) → length (map (λ (x : ℕ × ℕ). x.0) s) ≡ 
 map_length [] = refl
 map_length (x ∷ s) = ap suc (map_length s)
 
-counted_by : (o : Other) (s r : Seen) (L M : Entries) → ShowsBy o s r L M → left_by o (length s.stores - s.made) + made_by o s.made ≡ count_of (stores_in o s)
+counted_by : (o : Other) (s r : Seen) (L M : Entries) → ShowsBy o s r L M → left_by o (length s.stores - s.made) + stores_made o s.made ≡ count_of (stores_in o s)
 counted_by other.Free s r L M sh = omega (arith, sh.2.made, map_length s.stores)
 counted_by (other.Retired end) s r L M sh = omega (arith, sh.2.made, map_length s.stores)
 counted_by other.Built s r L M sh = refl
@@ -72,13 +72,13 @@ pick false false true n routes h = refl
 pick true false true n routes h = let q = h refl in absurd (cc)
 pick false true true n routes h = let q = h refl in absurd (cc)
 
-pub published_is : (w : World) (f : Family) (n : ℕ) (b : Option Begun) (lookups : Family → ℕ → Option machine.Lookup) (l : Living) (a : Addr) → w.direct ≤ 32 → a.family ≡ f → IsTrieAt w f n b l → published l (w.routes n) (w.routes (shown_after w f n b)) a ≡ w.routes (machine.published w (record { ended = n; begun = b; lookups = lookups }) (addr_as a))
+pub published_is : (w : World) (f : Family) (n : ℕ) (b : Option Begun) (lookups : Family → ℕ → Option machine.Lookup) (l : Living) (a : Addr) → w.direct ≤ 32 → a.family ≡ f → IsTrieAt w f n b l → published_entries l (w.routes n) (w.routes (shown_after w f n b)) a ≡ w.routes (machine.published w (record { ended = n; begun = b; lookups = lookups }) (addr_as a))
 published_is w f n None lookups l a few fam h = pick (covers_by l.state l.selected (slot_of l.selected.direct_bits a)) false false n w.routes (λ e. absurd (cc))
 published_is w f n (Some b) lookups l a few fam h =
-    pick (covers_by l.state l.selected (slot_of l.selected.direct_bits a)) (machine.covers b.stores b.made (machine.slot_of w (addr_as a))) (is_in f (w.changed n)) n w.routes same
-    ∙ ap (λ (g : Family). w.routes (cond (is_in g (w.changed n) && machine.covers b.stores b.made (machine.slot_of w (addr_as a))) (suc n) n)) (sym fam)
+    pick (covers_by l.state l.selected (slot_of l.selected.direct_bits a)) (machine.covers b.stores b.made (machine.direct_slot w (addr_as a))) (changes_family f (w.changed n)) n w.routes same
+    ∙ ap (λ (g : Family). w.routes (cond (changes_family g (w.changed n) && machine.covers b.stores b.made (machine.direct_slot w (addr_as a))) (suc n) n)) (sym fam)
   where
-    same : is_in f (w.changed n) ≡ true → covers_by l.state l.selected (slot_of l.selected.direct_bits a) ≡ machine.covers b.stores b.made (machine.slot_of w (addr_as a))
+    same : changes_family f (w.changed n) ≡ true → covers_by l.state l.selected (slot_of l.selected.direct_bits a) ≡ machine.covers b.stores b.made (machine.direct_slot w (addr_as a))
     same e =
         let u = h.begun.0 e in
         covers_is l.state l.selected (slot_of l.selected.direct_bits a)

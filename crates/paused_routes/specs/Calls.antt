@@ -13,8 +13,8 @@ use Rattle.poptrie_build.specs.declared.filling.TrieFull.{TrieFull}
 use Rattle.route_tries.specs.declared.sizes.Sizes.{Sizes}
 use Rattle.poptrie_update.specs.declared.pending.NotReady.{NotReady}
 use Rattle.poptrie_update.specs.declared.pending.NotReady.TheVariants as why
-use Rattle.step_model.specs.Rows.{StepRow, opened, full, went_on, answered, not_open, stored, ended, left, cancelled, late, nothing, printed_number}
-use Rattle.step_model.specs.Machine.{World, State, Lookup, Stores, is_in, MayPin, Goes, version_of}
+use Rattle.step_script.specs.Rows.{StepRow, opened, full, went_on, answered, not_open, stored, ended, left, cancelled, late, nothing, printed_number}
+use Rattle.step_script.specs.Machine.{World, State, Lookup, Stores, changes_family, MayPin, Goes, version_of}
 use Rattle.paused_routes.specs.declared.routes.PausedError.{PausedError}
 use Rattle.paused_routes.specs.declared.routes.PausedError.TheVariants as paused
 use Rattle.paused_routes.specs.Paused.{IsWorld}
@@ -29,12 +29,12 @@ pub record IsWorldOf (w : World) (f : Family) (L : Entries) (z : Sizes) : Type 0
   pub leaves : w.leaves ≡ z.leaves
 
 -- the needs of entries are more than an arena of these orders has
-abbrev pub IsTooMany : Family → (direct nodes leaves : ℕ) → Entries → TrieFull → Type 0
-IsTooMany f direct nodes leaves L t = IsTooMuch t.arena t.need t.have (node_need f direct L) (leaf_need f direct L) (2 ^ nodes) (2 ^ leaves)
+abbrev pub IsTrieTooSmall : Family → (direct nodes leaves : ℕ) → Entries → TrieFull → Type 0
+IsTrieTooSmall f direct nodes leaves L t = IsTooMuch t.arena t.need t.have (node_need f direct L) (leaf_need f direct L) (2 ^ nodes) (2 ^ leaves)
 
 abbrev pub IsWhyNot : Labels → Sizes → PausedError → Type 0
 IsWhyNot tree z paused.NoMemory = Unit {0}
-IsWhyNot tree z (paused.Full t) = IsTooMany tree.family z.direct z.nodes z.leaves tree.routes t
+IsWhyNot tree z (paused.Full t) = IsTrieTooSmall tree.family z.direct z.nodes z.leaves tree.routes t
 
 -- ---- look-ups
 -- the row of a look-up that is opened
@@ -67,7 +67,7 @@ pub record IsNext (w : World) (s : State) (p : Prefix) (hop : ℕ) (L : Entries)
 -- why the next event isn't begun: the needs of the routes after it don't fit, or a look-up may hold what it would need
 abbrev pub IsHindered : World → State → Family → NotReady → Type 0
 IsHindered w s f why.Memory = Unit {0}
-IsHindered w s f (why.TooMuch t) = IsTooMany f w.direct w.nodes w.leaves (w.routes (suc s.ended)) t
+IsHindered w s f (why.TooMuch t) = IsTrieTooSmall f w.direct w.nodes w.leaves (w.routes (suc s.ended)) t
 IsHindered w s f (why.Pinned need cursor arena largest) = (k : Lookup) × MayPin w s f cursor k
 
 -- the rows of its steps
@@ -88,7 +88,7 @@ cancel_row (Err e) = late
 pub record IsElsewhere (w : World) (f : Family) (s t : State) : Type 0 where
   pub ended : t.ended ≡ s.ended
   pub lookups : (n : ℕ) → t.lookups f n ≡ s.lookups f n
-  pub begun : is_in f (w.changed s.ended) ≡ true → t.begun ≡ s.begun
+  pub begun : changes_family f (w.changed s.ended) ≡ true → t.begun ≡ s.begun
 
 -- the state after the event that is begun has ended
 abbrev pub ended_with : State → State

@@ -12,23 +12,23 @@ use Rattle.poptrie_set.specs.Prepares.{AgreeOutside}
 use Rattle.poptrie_update.specs.Lives.{Living, Shows, Past, is_pending, made_of}
 use Rattle.poptrie_update.specs.declared.live.Other.{Other}
 use Rattle.poptrie_update.specs.declared.live.Other.TheVariants as other
-use Rattle.poptrie_cursor.specs.Cursors.{Due, Dues, lookup_of, FitsAll}
-use Rattle.poptrie_cursor.specs.declared.cursors.Lookup as code_lookup
-use Rattle.poptrie_cursor.specs.declared.cursors.Stage.{Stage}
-use Rattle.poptrie_cursor.specs.declared.cursors.Stage.TheVariants as stage
-use Rattle.step_model.specs.Machine.{World, State, Lookup, Begun, Stores, words, selector, is_in, changes_before}
+use Rattle.poptrie_update.specs.Cursors.{Due, Dues, lookup_of, FitsAll}
+use Rattle.poptrie_update.specs.declared.cursors.Lookup as code_lookup
+use Rattle.poptrie_update.specs.declared.cursors.Stage.{Stage}
+use Rattle.poptrie_update.specs.declared.cursors.Stage.TheVariants as stage
+use Rattle.step_script.specs.Machine.{World, State, Lookup, Begun, Stores, words, selector, changes_family, changes_before}
 use Rattle.paused_routes.specs.declared.routes.PausedRoutes.{PausedRoutes}
 
 -- ---- the world, as it concerns a family
 -- an event of another family changes none of the family's answers, and one of its own changes them within the event's prefix alone
 pub record IsWorld (w : World) (f : Family) : Type 0 where
-  pub stays : (n : ℕ) → is_in f (w.changed n) ≡ false → all_answers f (w.routes (suc n)) ≡ all_answers f (w.routes n)
+  pub stays : (n : ℕ) → changes_family f (w.changed n) ≡ false → all_answers f (w.routes (suc n)) ≡ all_answers f (w.routes n)
   pub changes : (n : ℕ) (p : Prefix) → w.changed n ≡ Some p → p.family ≡ f → AgreeOutside p (w.routes n) (w.routes (suc n))
 
 -- whether the event that is begun, if one is, is of the family, n events having ended
 abbrev pub is_own : World → Family → ℕ → Option Begun → Bool
 is_own w f n None = false
-is_own w f n (Some b) = is_in f (w.changed n)
+is_own w f n (Some b) = changes_family f (w.changed n)
 
 -- how many events the family's routes are those after, once an event of its own that is begun has ended
 abbrev pub shown_after : World → Family → ℕ → Option Begun → ℕ
@@ -37,7 +37,7 @@ shown_after w f n b = cond (is_own w f n b) (suc n) n
 -- what each version of the family needed that one of the first n events replaced
 unfoldable pub needs_before : World → Family → (Entries → ℕ) → ℕ → List ℕ
 needs_before w f need zero = []
-needs_before w f need (suc n) = needs_before w f need n ++ cond (is_in f (w.changed n)) (need (w.routes n) ∷ []) []
+needs_before w f need (suc n) = needs_before w f need n ++ cond (changes_family f (w.changed n)) (need (w.routes n) ∷ []) []
 
 -- ---- a look-up
 -- before its first go, or in its version, of which so many nodes are left
@@ -46,7 +46,7 @@ IsStage w k stage.Word d = (k.gone ≡ 0) × (k.version ≡ None)
 IsStage w k (stage.Node i set t) d = (m : ℕ) × (k.version ≡ Some m) × (d.answer ≡ match_in (w.routes m) k.addr) × (k.gone + d.left ≡ suc (visits_of w.direct (w.routes m) k.addr))
 
 -- the same look-up: its start is told by the changes of its family
-pub record IsSame (w : World) (f : Family) (k : Lookup) (c : code_lookup.Lookup) (d : Due) : Type 0 where
+pub record IsSameLookup (w : World) (f : Family) (k : Lookup) (c : code_lookup.Lookup) (d : Due) : Type 0 where
   pub addr : k.addr ≡ addr_as c.addr
   pub since : c.since ≡ changes_before w f k.since
   pub stage : IsStage w k c.stage d
@@ -54,7 +54,7 @@ pub record IsSame (w : World) (f : Family) (k : Lookup) (c : code_lookup.Lookup)
 -- both are open, and the same, or neither is
 abbrev pub AreSame : World → Family → Option Lookup → Option code_lookup.Lookup → Due → Type 0
 AreSame w f None None d = Unit {0}
-AreSame w f (Some k) (Some c) d = IsSame w f k c d
+AreSame w f (Some k) (Some c) d = IsSameLookup w f k c d
 AreSame w f None (Some c) d = ⊥
 AreSame w f (Some k) None d = ⊥
 
@@ -75,7 +75,7 @@ pub record IsUnderWay (l : Living) (b : Begun) : Type 0 where
 -- an update is pending exactly where an event of the family is begun
 abbrev pub IsBegun : World → Family → ℕ → Living → Option Begun → Type 0
 IsBegun w f n l None = is_pending l ≡ false
-IsBegun w f n l (Some b) = (is_in f (w.changed n) ≡ true → IsUnderWay l b) × (is_in f (w.changed n) ≡ false → is_pending l ≡ false)
+IsBegun w f n l (Some b) = (changes_family f (w.changed n) ≡ true → IsUnderWay l b) × (changes_family f (w.changed n) ≡ false → is_pending l ≡ false)
 
 -- ---- the parts, n events having ended
 -- the trie: its time is the number of its family's changes, and it shows the routes before the event that is begun, if it is of the
@@ -99,7 +99,7 @@ pub record IsTreeAt (w : World) (f : Family) (n : ℕ) (b : Option Begun) (t : L
 
 -- ---- all of it
 -- what the machine's state says of the family
-pub record IsIn (w : World) (f : Family) (s : State) (p : PausedRoutes) (due : Dues) : Type 0 where
+pub record IsFamilyState (w : World) (f : Family) (s : State) (p : PausedRoutes) (due : Dues) : Type 0 where
   pub world : IsWorld w f
   pub tree : IsTreeAt w f s.ended s.begun p.tree
   pub trie : IsTrieAt w f s.ended s.begun p.live
@@ -109,7 +109,7 @@ pub record IsIn (w : World) (f : Family) (s : State) (p : PausedRoutes) (due : D
   pub many : length p.cursors ≡ 64
 
 abbrev pub IsAt : World → Family → State → PausedRoutes → Type 0
-IsAt w f s p = (due : Dues) × IsIn w f s p due
+IsAt w f s p = (due : Dues) × IsFamilyState w f s p due
 
 -- in some world, and some state of the machine
 abbrev pub IsSomewhere : PausedRoutes → Type 0

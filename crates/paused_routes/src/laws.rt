@@ -2,7 +2,7 @@
 
 ghost use Rattle.std.specs.Prelude.{◌≡◌, false};
 ghost use Rattle.table_model.specs.declared.family.Family.{Family};
-ghost use Rattle.step_model.specs.Machine.{World, State, is_in};
+ghost use Rattle.step_script.specs.Machine.{World, State, changes_family};
 ghost use Rattle.paused_routes.specs.declared.routes.PausedRoutes.{PausedRoutes};
 ghost use Rattle.paused_routes.specs.Paused.{IsAt};
 ghost use Rattle.paused_routes.specs.Calls.{IsElsewhere, ended_with};
@@ -17,5 +17,5 @@ pub fn elsewhere_law()
 /// So it does where an event ends that isn't of the family.
 pub fn ended_law()
     ensures { (w : World) (f : Family) (s : State) (p : PausedRoutes)
-        → is_in f (w.changed s.ended) ≡ false → IsAt w f s p → IsAt w f (ended_with s) p }
+        → changes_family f (w.changed s.ended) ≡ false → IsAt w f s p → IsAt w f (ended_with s) p }
 {}

@@ -11,6 +11,5 @@ mod laws;
 mod routes;
 
 pub use laws::{elsewhere_law, ended_law};
-pub use poptrie_cursor::{CursorsFull, NotOpen};
-pub use poptrie_update::{NotReady, Pending};
+pub use poptrie_update::{CursorsFull, NotOpen, NotReady, Pending};
 pub use routes::{PausedError, PausedRoutes};

@@ -3,7 +3,7 @@
 ghost use Rattle.std.specs.Prelude.{◌≡◌, None, IfOk, IfErr, OnOk, OnErr};
 ghost use Rattle.fib_addr.specs.Views.{prefix_as};
 ghost use Rattle.kept_model.specs.Patched.{with_route};
-ghost use Rattle.step_model.specs.Machine.{World};
+ghost use Rattle.step_script.specs.Machine.{World};
 ghost use Rattle.paused_routes.specs.Paused.{IsTrieAt};
 ghost use Rattle.paused_routes.specs.Calls.{IsWorldOf, IsWhyNot};
 ghost use Rattle.paused_routes.specs.declared.routes.PausedError.TheVariants.{NoMemory as IsNoMemory};
@@ -11,9 +11,8 @@ ghost use Rattle.paused_routes.specs.declared.routes.PausedError.TheVariants.{No
 use fib_addr::{Addr, Hop, Prefix};
 use orig_tree::Tree;
 use poptrie_build::TrieFull;
-use poptrie_cursor::{Cursors, CursorsFull, NotOpen};
 use poptrie_set::crowded_law;
-use poptrie_update::{Live, NotReady, Pending};
+use poptrie_update::{Cursors, CursorsFull, Live, NotOpen, NotReady, Pending};
 use route_tries::{RouteRegion, Sizes};
 use std::alloc::{AllocError, Global};
 use thiserror::Error;
@@ -91,7 +90,7 @@ impl PausedRoutes {
     ghost use Rattle.kept_model.specs.Patched.{with_route};
     ghost use Rattle.poptrie_update.specs.Lives.{is_pending};
     ghost use Rattle.poptrie_update.specs.Pendings.{IsTokenOf};
-    ghost use Rattle.step_model.specs.Machine.{World, State, Stores, Opens, MayStore, StoresOne, Ends, Cancels, at_first, HasRoom};
+    ghost use Rattle.step_script.specs.Machine.{World, State, Stores, Opens, MayStore, StoresOne, EndsEvent, Cancels, at_first, HasRoom};
     ghost use Rattle.paused_routes.specs.Paused.{IsAt, IsSomewhere};
     ghost use Rattle.paused_routes.specs.Calls.{IsWorldOf, IsWhyNot, open_row, GoesTo, begun_with, IsNext, IsHindered, store_row, end_row, cancel_row};
 
@@ -208,7 +207,7 @@ impl PausedRoutes {
         requires token { IsTokenOf pending self.old.live }
         requires time { self.old.live.selected.time < 18446744073709551615 }
         ensures ends { (w : World) (f : Family) (s : State) → IsAt w f s self.old
-            → (t : State) × Ends s s.begun (end_row result) t × IsAt w f t self.new }
+            → (t : State) × EndsEvent s s.begun (end_row result) t × IsAt w f t self.new }
         ensures tree { self.new.tree ≡ self.old.tree }
         ensures left { IfErr result (λ p. (p ≡ pending) × (self.new ≡ self.old)) }
     {

@@ -5,16 +5,16 @@ use Rattle.buddy_arena.specs.Space.{Space, IsSized, OneEach, blocks}
 use Rattle.buddy_arena.specs.Space as arena
 use Rattle.fib_addr.specs.Answers.{one_answer, part}
 use Rattle.poptrie_build.specs.Strides.{slots, slot, mixed, starts, or_earlier, leaf_before, run_start, total}
-use Rattle.block_pool.specs.Powers.{up}
+use Rattle.buddy_arena.specs.Powers.{up}
 use Rattle.poptrie_build.specs.Need.{children, runs, if_mixed, need_nodes, need_leaves}
 use Rattle.poptrie_build.specs.Stands.{IsCanonical}
 use Rattle.poptrie_build.specs.Slots.{AreSlots}
-use Rattle.poptrie_build.specs.Making.{kind_in}
+use Rattle.poptrie_build.specs.Making.{slot_kind}
 use Rattle.std.proofs.Math.Pow.{pow_mono}
 use Rattle.table_model.specs.Bits.{bits_of}
 use Rattle.table_model.proofs.BitLaws.{length-bits_of}
-use Rattle.block_pool.specs.Places.{count_free, IsFresh, Takes}
-use Rattle.block_pool.proofs.Powers.{up_above}
+use Rattle.buddy_arena.specs.Places.{count_free, IsFresh, TakesPlaces}
+use Rattle.buddy_arena.proofs.Powers.{up_above}
 use Rattle.poptrie_build.specs.declared.node.Node.{Node}
 use Rattle.fib_addr.proofs.OneAnswer.{mixed_bits}
 
@@ -100,7 +100,7 @@ fresh_same : {T : Type 0} (s t : Space T) → t.order ≡ s.order → t.free ≡
 fresh_same s t o f h = subst (λ (n : ℕ). OneEach (blocks n t.free)) (sym o) (subst (λ (x : List Bool). OneEach (blocks s.order x)) (sym f) h)
 
 free_same : {T : Type 0} (s t : Space T) → t.free ≡ s.free → count_free t ≡ count_free s
-free_same s t f = ap arena.total f
+free_same s t f = ap arena.free_count f
 
 module _ (d : ℕ) (f : List Bool → ℕ) (n0 n1 : Space Node) (l0 l1 : Space ℕ) (c r : ℕ) where
   -- both blocks came out
@@ -176,11 +176,11 @@ child_fits d f n0 n1 l0 l1 v b g l none eb eg c (suc k) h hn hl = (
 )
 
 -- what was asked is what the slots are
-pub kinds_agree : (d : ℕ) (f : List Bool → ℕ) (kinds : List (Option ℕ)) → AreSlots 6 d f kinds → Agree (kind_in kinds) (slots d f)
+pub kinds_agree : (d : ℕ) (f : List Bool → ℕ) (kinds : List (Option ℕ)) → AreSlots 6 d f kinds → Agree (slot_kind kinds) (slots d f)
 kinds_agree d f kinds a = a
 
 -- places of a block are numbers that fit
-pub block_small : (base n r len o : ℕ) (old new : ℕ → Bool) → Takes base (up n) old new len → len ≡ 2 ^ o → o < 31 → r ≤ n → base + r < 4294967296
+pub block_small : (base n r len o : ℕ) (old new : ℕ → Bool) → TakesPlaces base (up n) old new len → len ≡ 2 ^ o → o < 31 → r ≤ n → base + r < 4294967296
 block_small base n r len o old new t e l h = let m : 2 ^ o ≤ 2 ^ 30 = pow_mono {i = o} {j = 30} (omega arith) in omega (arith, t.within, up_above n)
 
 take_all : {A : Type 0} (n : ℕ) (xs : List A) → length xs ≤ n → take n xs ≡ xs

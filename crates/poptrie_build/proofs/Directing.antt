@@ -9,16 +9,16 @@ use Rattle.table_model.proofs.BitLaws.{length-bits_of}
 use Rattle.buddy_arena.specs.Space.{Space, IsSized}
 use Rattle.fib_addr.specs.Answers.{side, part, one_answer}
 use Rattle.poptrie_build.specs.Strides.{mixed}
-use Rattle.block_pool.specs.Powers.{up, up_from}
-use Rattle.poptrie_build.specs.Need.{told, need_nodes, need_leaves, trie_nodes, trie_leaves}
+use Rattle.buddy_arena.specs.Powers.{up, up_from}
+use Rattle.poptrie_build.specs.Need.{need_in_u64, need_nodes, need_leaves, trie_nodes, trie_leaves}
 use Rattle.poptrie_build.specs.Stands.{BySlot, node_at, blank}
-use Rattle.block_pool.specs.Places.{Keeps, Takes, since}
+use Rattle.buddy_arena.specs.Places.{Keeps, TakesPlaces, since}
 use Rattle.poptrie_build.specs.Build.{StandsIn, WordIn, WordsIn}
 use Rattle.poptrie_build.specs.declared.node.Node.{Node}
 use Rattle.fib_addr.proofs.OneAnswer.{one_answer_part}
 use Rattle.poptrie_build.proofs.Slotting.{double, low_bits, high_bits}
 use Rattle.poptrie_build.proofs.Carry.{Carries, map_slot, carry}
-use Rattle.block_pool.proofs.Parting.{since_now, since_not}
+use Rattle.buddy_arena.proofs.Parting.{since_now, since_not}
 use Rattle.poptrie_build.proofs.Going.{since_from, not_before, apart, apart2}
 use Rattle.poptrie_build.proofs.Counting.{no_nodes, no_leaves}
 
@@ -109,7 +109,7 @@ up_one : up 1 ≡ 1
 unfolding up up_from
 up_one = refl
 
-pub word_node : (b k p : ℕ) (f : List Bool → ℕ) (node : Node) (n2 n3 : List Node) (N0 N1 N2 N3 : ℕ → Bool) (l2 : List ℕ) (L0 L2 : ℕ → Bool) (len : ℕ) → one_answer b f ≡ None → Takes p (up 1) N0 N1 len → len ≡ length n2 → len ≤ 2 ^ 31 → ((i : ℕ) → N0 i ≡ true → N1 i ≡ true) → ((i : ℕ) → N1 i ≡ true → N2 i ≡ true) → n3 ≡ set n2 p node → N3 ≡ N2 →
+pub word_node : (b k p : ℕ) (f : List Bool → ℕ) (node : Node) (n2 n3 : List Node) (N0 N1 N2 N3 : ℕ → Bool) (l2 : List ℕ) (L0 L2 : ℕ → Bool) (len : ℕ) → one_answer b f ≡ None → TakesPlaces p (up 1) N0 N1 len → len ≡ length n2 → len ≤ 2 ^ 31 → ((i : ℕ) → N0 i ≡ true → N1 i ≡ true) → ((i : ℕ) → N1 i ≡ true → N2 i ≡ true) → n3 ≡ set n2 p node → N3 ≡ N2 →
     StandsIn k n2 (since N1 N2) l2 (since L0 L2) node b f → WordIn p k n3 (since N0 N3) l2 (since L0 L2) b f
 word_node b k p f node n2 n3 N0 N1 N2 N3 l2 L0 L2 len none t long small s01 s12 c s s2 =
     let z : p + 0 ≡ p = omega arith in
@@ -152,7 +152,7 @@ pub one_fits_leaves : (k d x : ℕ) (f : List Bool → ℕ) → trie_leaves 0 k 
 unfolding trie_leaves
 one_fits_leaves k d x f h = h
 
-pub first_out : (p len : ℕ) (old new : ℕ → Bool) → Takes p (up 1) old new len → (old p ≡ false) × (new p ≡ true) × (p < len)
+pub first_out : (p len : ℕ) (old new : ℕ → Bool) → TakesPlaces p (up 1) old new len → (old p ≡ false) × (new p ≡ true) × (p < len)
 first_out p len old new t =
     let z : p + 0 ≡ p = omega arith in
     let one : 0 < up 1 = omega (arith, up_one) in
@@ -211,23 +211,23 @@ module _ (j b e k x : ℕ) (f g : List Bool → ℕ) (some : j ≢ 0) (le : j �
   low_leaves h = omega (arith, split_leaves j b e e k f g (side true f) some le eb eb ge refl)
 
 -- ---- needs as they are told
-pub zero_nodes : (j k b d x : ℕ) (f : List Bool → ℕ) → j ≡ 0 → d ≡ b - j → one_answer b f ≡ None → x ≡ told (need_nodes k b f) → min (x + 1) 18446744073709551615 ≡ told (trie_nodes j k d f)
+pub zero_nodes : (j k b d x : ℕ) (f : List Bool → ℕ) → j ≡ 0 → d ≡ b - j → one_answer b f ≡ None → x ≡ need_in_u64 (need_nodes k b f) → min (x + 1) 18446744073709551615 ≡ need_in_u64 (trie_nodes j k d f)
 unfolding trie_nodes
 zero_nodes j k b d x f z e none i =
     let s : d ≡ b = omega arith in
     let t : trie_nodes j k d f ≡ mixed (one_answer b f) + need_nodes k b f = ap (λ n. trie_nodes n k d f) z ∙ ap (λ n. mixed (one_answer n f) + need_nodes k n f) s in
     omega (arith, i, t, ap mixed none)
 
-pub zero_leaves : (j k b d x : ℕ) (f : List Bool → ℕ) → j ≡ 0 → d ≡ b - j → x ≡ told (need_leaves k b f) → x ≡ told (trie_leaves j k d f)
+pub zero_leaves : (j k b d x : ℕ) (f : List Bool → ℕ) → j ≡ 0 → d ≡ b - j → x ≡ need_in_u64 (need_leaves k b f) → x ≡ need_in_u64 (trie_leaves j k d f)
 unfolding trie_leaves
 zero_leaves j k b d x f z e i =
     let s : d ≡ b = omega arith in
-    i ∙ ap told (sym (ap (λ n. trie_leaves n k d f) z ∙ ap (λ n. need_leaves k n f) s))
+    i ∙ ap need_in_u64 (sym (ap (λ n. trie_leaves n k d f) z ∙ ap (λ n. need_leaves k n f) s))
 
-pub told_none : (n : ℕ) → n ≡ 0 → 0 ≡ told n
+pub told_none : (n : ℕ) → n ≡ 0 → 0 ≡ need_in_u64 n
 told_none n e = omega (arith, e)
 
-pub told_sum : (n a b x y : ℕ) → n ≡ a + b → x ≡ told a → y ≡ told b → min (x + y) 18446744073709551615 ≡ told n
+pub told_sum : (n a b x y : ℕ) → n ≡ a + b → x ≡ need_in_u64 a → y ≡ need_in_u64 b → min (x + y) 18446744073709551615 ≡ need_in_u64 n
 told_sum n a b x y e i j = omega (arith, e, i, j)
 
 -- a call that was refused says nothing of what stands

@@ -18,11 +18,11 @@ use Rattle.poptrie_build.specs.Strides.{Region, strides, address}
 use Rattle.fib_addr.specs.Views.{addr_as}
 use Rattle.fib_addr.specs.declared.addr.Addr.{Addr}
 use Rattle.poptrie_build.specs.Keys.{widened}
-use Rattle.poptrie_build.specs.Need.{told, trie_nodes, trie_leaves}
+use Rattle.poptrie_build.specs.Need.{need_in_u64, trie_nodes, trie_leaves}
 use Rattle.poptrie_build.specs.Stands.{BySlot, Stands, TrieStands}
 use Rattle.poptrie_build.specs.Led.{StandsWhole}
-use Rattle.block_pool.specs.Places.{count_free, is_out, IsFresh}
-use Rattle.block_pool.specs.Arrays.{AreApart}
+use Rattle.buddy_arena.specs.Places.{count_free, is_out, IsFresh}
+use Rattle.buddy_arena.specs.Arrays.{AreApart}
 use Rattle.poptrie_build.specs.Arrays.{word_arrays, word_leaf_arrays}
 use Rattle.poptrie_build.proofs.Wording.{none_apart}
 use Rattle.poptrie_build.specs.Build.{WordsIn}
@@ -50,10 +50,10 @@ module _ {T : Type 0} (s : Space T) (o : ℕ) (fill : T) (e : s ≡ empty o fill
   pub all_sized : o < 31 → IsSized s
   all_sized l = subst (λ (t : Space T). IsSized t) (sym e) (record { small = l; places = length-replicate (2 ^ o) true; cells = length-replicate (2 ^ o) fill })
 
-pub too_many_nodes : (n l hn hl need have : ℕ) → need ≡ told n → have ≡ hn → have < need → IsTooMuch 0 need have n l hn hl
+pub too_many_nodes : (n l hn hl need have : ℕ) → need ≡ need_in_u64 n → have ≡ hn → have < need → IsTooMuch 0 need have n l hn hl
 too_many_nodes n l hn hl need have e h g = inl (refl, e, h, omega (arith, e, g))
 
-pub too_many_leaves : (n l o hl some have need place : ℕ) → o < 31 → some ≡ told n → have ≡ 2 ^ o → some ≤ have → need ≡ told l → place ≡ hl → (n ≤ 2 ^ o → l ≤ hl → ⊥) → IsTooMuch 1 need place n l (2 ^ o) hl
+pub too_many_leaves : (n l o hl some have need place : ℕ) → o < 31 → some ≡ need_in_u64 n → have ≡ 2 ^ o → some ≤ have → need ≡ need_in_u64 l → place ≡ hl → (n ≤ 2 ^ o → l ≤ hl → ⊥) → IsTooMuch 1 need place n l (2 ^ o) hl
 too_many_leaves n l o hl some have need place s e h g f p r =
     let m : 2 ^ o ≤ 2 ^ 30 = pow_mono {i = o} {j = 30} (omega arith) in
     let fits : n ≤ 2 ^ o = omega (arith, e, h, g) in
@@ -97,7 +97,7 @@ stands_none t o p x y few w n l =
 pub strides_do : (d : ℕ) → d ≤ 6 * strides d
 strides_do d = omega arith
 
-pub need_told : (x n h : ℕ) → x + n ≡ h → h < 18446744073709551615 → h - x ≡ told n
+pub need_told : (x n h : ℕ) → x + n ≡ h → h < 18446744073709551615 → h - x ≡ need_in_u64 n
 need_told x n h e l = omega (arith, e, l)
 
 pub few_places : (o : ℕ) → o < 31 → 2 ^ o < 18446744073709551615

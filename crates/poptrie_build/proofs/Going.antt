@@ -8,14 +8,14 @@ use Rattle.std.proofs.lemmas.Bool.{cases_eq, eqb-true}
 use Rattle.poptrie_build.specs.Bits.{rank_of}
 use Rattle.fib_addr.specs.Answers.{one_answer}
 use Rattle.poptrie_build.specs.Strides.{slots, slot, mixed, starts, or_earlier, leaf_before, run_start}
-use Rattle.block_pool.specs.Powers.{up}
+use Rattle.buddy_arena.specs.Powers.{up}
 use Rattle.poptrie_build.specs.Need.{children, runs}
-use Rattle.block_pool.proofs.Powers.{up_above}
+use Rattle.buddy_arena.proofs.Powers.{up_above}
 use Rattle.poptrie_build.specs.Stands.{IsCanonical, IsLeaf, BySlot, node_at, blank}
-use Rattle.block_pool.specs.Places.{Keeps, Takes, since}
+use Rattle.buddy_arena.specs.Places.{Keeps, TakesPlaces, since}
 use Rattle.poptrie_build.specs.Build.{StandsIn}
 use Rattle.poptrie_build.specs.declared.node.Node.{Node}
-use Rattle.block_pool.proofs.Parting.{since_now, since_not}
+use Rattle.buddy_arena.proofs.Parting.{since_now, since_not}
 use Rattle.poptrie_build.proofs.Carry.{carry}
 use Rattle.poptrie_build.proofs.So_far.{rank_total}
 use Rattle.poptrie_build.proofs.Walk.{leaf_ranked, node_ranked, rank_more}
@@ -53,11 +53,11 @@ rank_le n a (suc b) h =
     ]
 
 -- a block holds as many as were asked for
-pub fewer : {base n len : ℕ} {old mid : ℕ → Bool} → Takes base (up n) old mid len → Takes base n old mid len
+pub fewer : {base n len : ℕ} {old mid : ℕ → Bool} → TakesPlaces base (up n) old mid len → TakesPlaces base n old mid len
 fewer {n = n} t = let l = up_above n in record { within = omega (arith, t.within, l); were = λ i h. t.were i (omega arith); are = λ i h. t.are i (omega arith) }
 
 -- the place of the r-th of a block
-in_block : (base m r len : ℕ) (old mid : ℕ → Bool) → Takes base m old mid len → 0 < r → r ≤ m → (mid (base + r - 1) ≡ true) × (old (base + r - 1) ≡ false) × (base + r - 1 < len)
+in_block : (base m r len : ℕ) (old mid : ℕ → Bool) → TakesPlaces base m old mid len → 0 < r → r ≤ m → (mid (base + r - 1) ≡ true) × (old (base + r - 1) ≡ false) × (base + r - 1 < len)
 in_block base m r len old mid t h l =
     let e : base + (r - 1) ≡ base + r - 1 = omega arith in
     (subst (λ (i : ℕ). mid i ≡ true) e (t.are (r - 1) (omega arith)), subst (λ (i : ℕ). old i ≡ false) e (t.were (r - 1) (omega arith)), omega (arith, t.within))
@@ -123,8 +123,8 @@ pub record Going (vector leafvec base0 base1 d : ℕ) (f : List Bool → ℕ) (o
   pub early_leaves : (i : ℕ) → old.L i ≡ true → mid.L i ≡ true
   pub mid_nodes : (i : ℕ) → mid.N i ≡ true → now.N i ≡ true
   pub mid_leaves : (i : ℕ) → mid.L i ≡ true → now.L i ≡ true
-  pub node_block : Takes base1 (up (children (slots d f))) old.N mid.N (length now.nodes)
-  pub leaf_block : Takes base0 (up (runs (slots d f))) old.L mid.L (length now.leaves)
+  pub node_block : TakesPlaces base1 (up (children (slots d f))) old.N mid.N (length now.nodes)
+  pub leaf_block : TakesPlaces base0 (up (runs (slots d f))) old.L mid.L (length now.leaves)
   pub done : (u : ℕ) → u < v → Done vector leafvec base0 base1 d f mid now u
 
 -- at the end the node stands for the region by the places that came out
@@ -163,14 +163,14 @@ finish node d f old mid now none can g (suc k) h = (
 abbrev pub with_node : State → ℕ → Node → State
 with_node s i node = record { nodes = set s.nodes i node; N = s.N; leaves = s.leaves; L = s.L }
 
-node_place : (vector leafvec base1 d : ℕ) (f : List Bool → ℕ) (old mid : ℕ → Bool) (len u : ℕ) → u < 64 → IsCanonical vector leafvec (slots d f) → slots d f u ≡ None → Takes base1 (children (slots d f)) old mid len → (mid (base1 + rank_of vector (u + 1) - 1) ≡ true) × (old (base1 + rank_of vector (u + 1) - 1) ≡ false) × (base1 + rank_of vector (u + 1) - 1 < len)
+node_place : (vector leafvec base1 d : ℕ) (f : List Bool → ℕ) (old mid : ℕ → Bool) (len u : ℕ) → u < 64 → IsCanonical vector leafvec (slots d f) → slots d f u ≡ None → TakesPlaces base1 (children (slots d f)) old mid len → (mid (base1 + rank_of vector (u + 1) - 1) ≡ true) × (old (base1 + rank_of vector (u + 1) - 1) ≡ false) × (base1 + rank_of vector (u + 1) - 1 < len)
 node_place vector leafvec base1 d f old mid len u l can e t =
     let some = node_ranked vector u (can.nodes u l ∙ ap mixed e) in
     let le = rank_le vector (u + 1) 64 (omega arith) in
     let c : rank_of vector 64 ≡ children (slots d f) = rank_total vector 64 (λ u. mixed (slots d f u)) can.nodes in
     in_block base1 (children (slots d f)) (rank_of vector (u + 1)) len old mid t some (omega arith)
 
-leaf_place : (vector leafvec base0 d : ℕ) (f : List Bool → ℕ) (old mid : ℕ → Bool) (len u h : ℕ) → u < 64 → IsCanonical vector leafvec (slots d f) → slots d f u ≡ Some h → Takes base0 (runs (slots d f)) old mid len → (mid (base0 + rank_of leafvec (u + 1) - 1) ≡ true) × (old (base0 + rank_of leafvec (u + 1) - 1) ≡ false) × (base0 + rank_of leafvec (u + 1) - 1 < len)
+leaf_place : (vector leafvec base0 d : ℕ) (f : List Bool → ℕ) (old mid : ℕ → Bool) (len u h : ℕ) → u < 64 → IsCanonical vector leafvec (slots d f) → slots d f u ≡ Some h → TakesPlaces base0 (runs (slots d f)) old mid len → (mid (base0 + rank_of leafvec (u + 1) - 1) ≡ true) × (old (base0 + rank_of leafvec (u + 1) - 1) ≡ false) × (base0 + rank_of leafvec (u + 1) - 1 < len)
 leaf_place vector leafvec base0 d f old mid len u h l can e t =
     let some = leaf_ranked leafvec (slots d f) u h l can.leaves e in
     let le = rank_le leafvec (u + 1) 64 (omega arith) in
@@ -255,8 +255,8 @@ step_node vector leafvec base0 base1 d f old mid now after v node l none can g k
       early_leaves = g.early_leaves;
       mid_nodes = λ j q. kn.still j (g.mid_nodes j q);
       mid_leaves = λ j q. kl.still j (g.mid_leaves j q);
-      node_block = subst (λ (n : ℕ). Takes base1 (up (children (slots d f))) old.N mid.N n) (sym long) g.node_block;
-      leaf_block = subst (λ (n : ℕ). Takes base0 (up (runs (slots d f))) old.L mid.L n) (sym kl.long) g.leaf_block;
+      node_block = subst (λ (n : ℕ). TakesPlaces base1 (up (children (slots d f))) old.N mid.N n) (sym long) g.node_block;
+      leaf_block = subst (λ (n : ℕ). TakesPlaces base0 (up (runs (slots d f))) old.L mid.L n) (sym kl.long) g.leaf_block;
       done = λ u m. elim (cases_eq u v) [
         | inl same ↦ subst (λ (w : ℕ). Done vector leafvec base0 base1 d f mid now2 w) (sym same) (subst (λ (x : Option ℕ). BySlot x (NodeDone vector base1 d f mid now2 v) (LeafDone leafvec base0 now2 v)) (sym none) at_v)
         | inr other ↦ earlier u (omega arith) (slots d f u) refl (g.done u (omega arith))
@@ -310,7 +310,7 @@ step_leaf vector leafvec base0 base1 d f old mid now v h l some can g =
       mid_nodes = g.mid_nodes;
       mid_leaves = g.mid_leaves;
       node_block = g.node_block;
-      leaf_block = subst (λ (n : ℕ). Takes base0 (up (runs (slots d f))) old.L mid.L n) (sym long) g.leaf_block;
+      leaf_block = subst (λ (n : ℕ). TakesPlaces base0 (up (runs (slots d f))) old.L mid.L n) (sym long) g.leaf_block;
       done = λ u m. elim (cases_eq u v) [
         | inl same ↦ subst (λ (w : ℕ). Done vector leafvec base0 base1 d f mid now2 w) (sym same) (subst (λ (x : Option ℕ). BySlot x (NodeDone vector base1 d f mid now2 v) (LeafDone leafvec base0 now2 v)) (sym some) at_v)
         | inr other ↦ earlier_leaf vector leafvec base0 base1 d f old mid now v h l some can g u (omega arith) (slots d f u) refl (g.done u (omega arith))
@@ -376,7 +376,7 @@ at_end_stands vector leafvec base0 base1 d f old mid now v l m none can g =
     finish (record { vector = vector; leafvec = leafvec; base0 = base0; base1 = base1 }) d f old mid now none can (subst (λ (x : ℕ). Going vector leafvec base0 base1 d f old mid now x) e g)
 
 -- before the first slot
-pub going_start : (vector leafvec base0 base1 d : ℕ) (f : List Bool → ℕ) (n0 n1 : List Node) (l0 l1 : List ℕ) (oN mN oL mL : ℕ → Bool) {c r : ℕ} → c ≡ children (slots d f) → r ≡ runs (slots d f) → Takes base1 (up c) oN mN (length n1) → Takes base0 (up r) oL mL (length l1) → ((i : ℕ) → oN i ≡ true → mN i ≡ true) → ((i : ℕ) → oL i ≡ true → mL i ≡ true) → n1 ≡ n0 → l1 ≡ l0 →
+pub going_start : (vector leafvec base0 base1 d : ℕ) (f : List Bool → ℕ) (n0 n1 : List Node) (l0 l1 : List ℕ) (oN mN oL mL : ℕ → Bool) {c r : ℕ} → c ≡ children (slots d f) → r ≡ runs (slots d f) → TakesPlaces base1 (up c) oN mN (length n1) → TakesPlaces base0 (up r) oL mL (length l1) → ((i : ℕ) → oN i ≡ true → mN i ≡ true) → ((i : ℕ) → oL i ≡ true → mL i ≡ true) → n1 ≡ n0 → l1 ≡ l0 →
     Going vector leafvec base0 base1 d f (state n0 oN l0 oL) (state n1 mN l1 mL) (state n1 mN l1 mL) 0
 going_start vector leafvec base0 base1 d f n0 n1 l0 l1 oN mN oL mL ec er tn tl sn sl en el = record {
   nodes_kept = record { still = sn; same = λ i o. ap (λ x. get_or x i blank) en; long = ap length en };
@@ -385,7 +385,7 @@ going_start vector leafvec base0 base1 d f n0 n1 l0 l1 oN mN oL mL ec er tn tl s
   early_leaves = sl;
   mid_nodes = λ i o. o;
   mid_leaves = λ i o. o;
-  node_block = subst (λ (x : ℕ). Takes base1 (up x) oN mN (length n1)) ec tn;
-  leaf_block = subst (λ (x : ℕ). Takes base0 (up x) oL mL (length l1)) er tl;
+  node_block = subst (λ (x : ℕ). TakesPlaces base1 (up x) oN mN (length n1)) ec tn;
+  leaf_block = subst (λ (x : ℕ). TakesPlaces base0 (up x) oL mL (length l1)) er tl;
   done = λ u h. absurd (omega arith);
 }

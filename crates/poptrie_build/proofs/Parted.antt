@@ -5,15 +5,15 @@ use Rattle.std.specs.Int.{bit_at}
 use Rattle.std.proofs.lemmas.List.{get_or-set_same, get_or-set_other}
 use Rattle.poptrie_build.specs.Bits.{rank_of}
 use Rattle.poptrie_build.specs.Strides.{slots, mixed, run_start}
-use Rattle.block_pool.specs.Powers.{up}
+use Rattle.buddy_arena.specs.Powers.{up}
 use Rattle.poptrie_build.specs.Need.{children, runs}
 use Rattle.poptrie_build.specs.Stands.{IsCanonical, node_at, blank}
-use Rattle.block_pool.specs.Places.{Keeps, Takes, since}
-use Rattle.block_pool.specs.Arrays.{Array, Has, IsIn, AreApart}
+use Rattle.buddy_arena.specs.Places.{Keeps, TakesPlaces, since}
+use Rattle.buddy_arena.specs.Arrays.{Array, Has, IsIn, AreApart}
 use Rattle.poptrie_build.specs.Arrays.{gather, node_arrays, leaf_arrays}
 use Rattle.poptrie_build.specs.declared.node.Node.{Node}
-use Rattle.block_pool.proofs.Powers.{up_above}
-use Rattle.block_pool.proofs.Parting.{apart_cons, apart_append, since_now, since_not}
+use Rattle.buddy_arena.proofs.Powers.{up_above}
+use Rattle.buddy_arena.proofs.Parting.{apart_cons, apart_append, since_now, since_not}
 use Rattle.poptrie_build.proofs.Parting.{gather_same, part_at, nodes_same, leaves_same}
 use Rattle.poptrie_build.proofs.Going.{State, Going, rank_le, since_from, not_before, apart}
 use Rattle.poptrie_build.proofs.So_far.{rank_total}
@@ -50,7 +50,7 @@ parted_leaf vector base mid now to v z a b c p =
 
 -- a child was built and written
 module _ (vector base : ℕ) (mid now after to : State) (v len n : ℕ) (old : ℕ → Bool) (node : Node) where
-  module _ (bit : bit_at vector v ≡ 1) (low : rank_of vector (v + 1) ≤ n) (t : Takes base (up n) old mid.N len) (within : base + rank_of vector v < length after.nodes) (mn : (i : ℕ) → mid.N i ≡ true → now.N i ≡ true) (ml : (i : ℕ) → mid.L i ≡ true → now.L i ≡ true)
+  module _ (bit : bit_at vector v ≡ 1) (low : rank_of vector (v + 1) ≤ n) (t : TakesPlaces base (up n) old mid.N len) (within : base + rank_of vector v < length after.nodes) (mn : (i : ℕ) → mid.N i ≡ true → now.N i ≡ true) (ml : (i : ℕ) → mid.L i ≡ true → now.L i ≡ true)
       (kn : Keeps blank now.nodes now.N after.nodes after.N) (kl : (i : ℕ) → now.L i ≡ true → after.L i ≡ true) (a : to.nodes ≡ set after.nodes (base + rank_of vector v) node) where
     more : suc (rank_of vector v) ≡ rank_of vector (v + 1)
     more = omega (arith, rank_more vector v, bit)
@@ -114,7 +114,7 @@ module _ (vector base : ℕ) (mid now after to : State) (v len n : ℕ) (old : �
         no_since false y q = cc
 
 -- at the end
-block_is : (base n len : ℕ) (old mid now : ℕ → Bool) → Takes base (up n) old mid len → ((i : ℕ) → mid i ≡ true → now i ≡ true) → ((q : ℕ) × (base ≡ q * up n)) → IsIn (since old now) (base, up n) × ((i : ℕ) → Has (base, up n) i → since mid now i ≡ false)
+block_is : (base n len : ℕ) (old mid now : ℕ → Bool) → TakesPlaces base (up n) old mid len → ((i : ℕ) → mid i ≡ true → now i ≡ true) → ((q : ℕ) × (base ≡ q * up n)) → IsIn (since old now) (base, up n) × ((i : ℕ) → Has (base, up n) i → since mid now i ≡ false)
 block_is base n len old mid now t s q = (
   ((λ i h. since_from (old i) (now i) (s i (out i h)) (was i h)), q),
   λ i h. taken (mid i) (now i) (out i h),
@@ -143,7 +143,7 @@ module _ (vector leafvec base0 base1 d v : ℕ) (f : List Bool → ℕ) (old mid
   nodes_parted q zero = tt
   nodes_parted q (suc k) =
       let c : rank_of vector 64 ≡ children (slots d f) = rank_total vector 64 (λ u. mixed (slots d f u)) can.nodes in
-      let b = block_is base1 (rank_of vector 64) (length now.nodes) old.N mid.N now.N (subst (λ (n : ℕ). Takes base1 (up n) old.N mid.N (length now.nodes)) (sym c) g.node_block) g.mid_nodes (q.0, q.1 ∙ ap (λ n. q.0 * up n) (sym c)) in
+      let b = block_is base1 (rank_of vector 64) (length now.nodes) old.N mid.N now.N (subst (λ (n : ℕ). TakesPlaces base1 (up n) old.N mid.N (length now.nodes)) (sym c) g.node_block) g.mid_nodes (q.0, q.1 ∙ ap (λ n. q.0 * up n) (sym c)) in
       apart_cons (since mid.N now.N) (since old.N now.N) (base1, up (rank_of vector 64)) _ b.0 b.1 (wider old.N mid.N now.N g.early_nodes) (subst (λ (w : ℕ). AreApart (since mid.N now.N) (kids k now.nodes base1 (rank_of vector w))) v_is (p.nodes k))
 
   pub leaves_parted : ((q : ℕ) × (base0 ≡ q * up (runs (slots d f)))) → (k : ℕ) → AreApart (since old.L now.L) (leaf_arrays k now.nodes (record { vector = vector; leafvec = leafvec; base0 = base0; base1 = base1 }))
@@ -151,7 +151,7 @@ module _ (vector leafvec base0 base1 d v : ℕ) (f : List Bool → ℕ) (old mid
   leaves_parted q zero = tt
   leaves_parted q (suc k) =
       let c : rank_of leafvec 64 ≡ runs (slots d f) = rank_total leafvec 64 (run_start (slots d f)) can.leaves in
-      let b = block_is base0 (rank_of leafvec 64) (length now.leaves) old.L mid.L now.L (subst (λ (n : ℕ). Takes base0 (up n) old.L mid.L (length now.leaves)) (sym c) g.leaf_block) g.mid_leaves (q.0, q.1 ∙ ap (λ n. q.0 * up n) (sym c)) in
+      let b = block_is base0 (rank_of leafvec 64) (length now.leaves) old.L mid.L now.L (subst (λ (n : ℕ). TakesPlaces base0 (up n) old.L mid.L (length now.leaves)) (sym c) g.leaf_block) g.mid_leaves (q.0, q.1 ∙ ap (λ n. q.0 * up n) (sym c)) in
       apart_cons (since mid.L now.L) (since old.L now.L) (base0, up (rank_of leafvec 64)) _ b.0 b.1 (wider old.L mid.L now.L g.early_leaves) (subst (λ (w : ℕ). AreApart (since mid.L now.L) (kid_leaves k now.nodes base1 (rank_of vector w))) v_is (p.leaves k))
 
 pub rank_fits : (vector leafvec d : ℕ) (f : List Bool → ℕ) (v : ℕ) → v < 64 → IsCanonical vector leafvec (slots d f) → rank_of vector (v + 1) ≤ children (slots d f)

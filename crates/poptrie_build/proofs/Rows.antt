@@ -3,7 +3,7 @@ use Rattle.std.proofs.Common.{◌≡◌, ℕ, List, [], ◌∷◌, Bool, true, c
 use Rattle.table_model.specs.Bits.{bits_of}
 use Rattle.fib_addr.specs.Answers.{one_answer}
 use Rattle.poptrie_build.specs.Strides.{slots, visits, leaf_before, total}
-use Rattle.block_pool.specs.Powers.{up, up_from}
+use Rattle.buddy_arena.specs.Powers.{up, up_from}
 use Rattle.poptrie_build.specs.Need.{need_nodes, need_leaves}
 
 abbrev two : List Bool → ℕ

@@ -8,9 +8,9 @@ use Rattle.table_model.specs.Bits.{bits_of}
 use Rattle.table_model.proofs.BitLaws.{length-bits_of}
 use Rattle.fib_addr.specs.Answers.{side, part, one_answer}
 use Rattle.fib_addr.proofs.OneAnswer.{one_answer_part, mixed_bits}
-use Rattle.block_pool.specs.Powers.{up}
+use Rattle.buddy_arena.specs.Powers.{up}
 use Rattle.poptrie_build.specs.Strides.{slot, slots, mixed, starts, or_earlier, leaf_before, run_start, total}
-use Rattle.poptrie_build.specs.Need.{told, children, runs, need_nodes, need_leaves}
+use Rattle.poptrie_build.specs.Need.{need_in_u64, children, runs, need_nodes, need_leaves}
 use Rattle.poptrie_build.specs.Tally.{AreLeaves, IsNeed, IsTally, AreParts}
 use Rattle.poptrie_build.specs.declared.counts.Needs.{Needs}
 use Rattle.poptrie_build.specs.declared.tally.Tally.{Tally}
@@ -65,8 +65,8 @@ tally_leaves t s h g N L v (suc n) l c m bn bl z a i =
       nodes = c ∙ (i.nodes ∙ sym (total_none (λ u. mixed (g u)) v (suc n) (λ u l. ap mixed (alike u l))));
       leaves = m ∙ (ap (λ x. x + starts (Some h) t.last) i.leaves ∙ (ap (λ x. total (run_start g) v + starts (Some h) x) i.last ∙ sym (runs_alike g v n h alike)));
       below = record {
-        nodes = bn ∙ (i.below.nodes ∙ ap told (sym (total_none N v (suc n) (λ u l. (a u l).1))));
-        leaves = bl ∙ (i.below.leaves ∙ ap told (sym (total_none L v (suc n) (λ u l. (a u l).2))));
+        nodes = bn ∙ (i.below.nodes ∙ ap need_in_u64 (sym (total_none N v (suc n) (λ u l. (a u l).1))));
+        leaves = bl ∙ (i.below.leaves ∙ ap need_in_u64 (sym (total_none L v (suc n) (λ u l. (a u l).2))));
       };
     }
 
@@ -105,7 +105,7 @@ pub need_end : (n : Needs) (d : ℕ) (f : List Bool → ℕ) → one_answer d f 
 need_end n d f none i zero h = absurd (let m = mixed_bits d f none in omega arith)
 need_end n d f none i (suc k) h =
     let all = i k (omega arith) in
-    record { nodes = all.nodes ∙ ap told (sym (need_nodes_is k d f none)); leaves = all.leaves ∙ ap told (sym (need_leaves_is k d f none)) }
+    record { nodes = all.nodes ∙ ap need_in_u64 (sym (need_nodes_is k d f none)); leaves = all.leaves ∙ ap need_in_u64 (sym (need_leaves_is k d f none)) }
 
 -- ---- the slots of a region
 pub parts_start : (d : ℕ) (f : List Bool → ℕ) → AreParts 6 d f (d - 6) (slot d f) 0

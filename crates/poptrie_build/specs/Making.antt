@@ -5,8 +5,8 @@ use Rattle.poptrie_build.specs.Strides.{mixed, run_start, leaf_before}
 use Rattle.poptrie_build.specs.declared.making.Partial.{Partial}
 
 -- the kind of a slot in the list of all
-abbrev pub kind_in : List (Option ℕ) → ℕ → Option ℕ
-kind_in kinds v = slice_index_or kinds v None
+abbrev pub slot_kind : List (Option ℕ) → ℕ → Option ℕ
+slot_kind kinds v = slice_index_or kinds v None
 
 -- the slots below v are in the vectors, and no other bit is set
 pub record IsSoFar (s : Partial) (g : ℕ → Option ℕ) (v : ℕ) : Type 0 where

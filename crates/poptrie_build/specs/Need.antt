@@ -1,6 +1,6 @@
 -- How many places the nodes and the leaves of a trie need.
 use Rattle.std.specs.Prelude.{ℕ, zero, suc, ◌+◌, ◌-◌, List, Bool, true, false, Option, Some, None, min}
-use Rattle.block_pool.specs.Powers.{up}
+use Rattle.buddy_arena.specs.Powers.{up}
 use Rattle.fib_addr.specs.Answers.{side, one_answer}
 use Rattle.poptrie_build.specs.Strides.{slots, slot, mixed, run_start, total}
 
@@ -36,5 +36,5 @@ trie_leaves zero k d f = need_leaves k d f
 trie_leaves (suc s) k d f = trie_leaves s k d (side false f) + trie_leaves s k d (side true f)
 
 -- a need told in a u64
-abbrev pub told : ℕ → ℕ
-told n = min n 18446744073709551615
+abbrev pub need_in_u64 : ℕ → ℕ
+need_in_u64 n = min n 18446744073709551615

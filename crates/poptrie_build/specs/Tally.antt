@@ -3,14 +3,14 @@ use Rattle.std.specs.Prelude.{◌≡◌, ℕ, ◌+◌, ◌-◌, ◌^◌, ◌<◌
 use Rattle.table_model.specs.Bits.{bits_of}
 use Rattle.fib_addr.specs.Answers.{one_answer, part}
 use Rattle.poptrie_build.specs.Strides.{mixed, leaf_before, run_start, total}
-use Rattle.poptrie_build.specs.Need.{told, need_nodes, need_leaves}
+use Rattle.poptrie_build.specs.Need.{need_in_u64, need_nodes, need_leaves}
 use Rattle.poptrie_build.specs.declared.counts.Needs.{Needs}
 use Rattle.poptrie_build.specs.declared.tally.Tally.{Tally}
 
 -- x places of nodes are needed and y of leaves
 pub record IsNeed (n : Needs) (x y : ℕ) : Type 0 where
-  pub nodes : n.nodes ≡ told x
-  pub leaves : n.leaves ≡ told y
+  pub nodes : n.nodes ≡ need_in_u64 x
+  pub leaves : n.leaves ≡ need_in_u64 y
 
 -- The tally is that of the first v slots of a node. Slot u is a leaf of hop g u, or has a node where g u is None; the arrays below it
 -- need N u places of nodes and L u of leaves.

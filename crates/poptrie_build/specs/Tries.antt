@@ -7,10 +7,10 @@ use Rattle.table_model.specs.Entries.{Entries}
 use Rattle.buddy_arena.specs.Space.{Space, IsSized}
 use Rattle.fib_addr.specs.Answers.{all_answers}
 use Rattle.poptrie_build.specs.Strides.{strides, trie_visits}
-use Rattle.poptrie_build.specs.Need.{told, trie_nodes, trie_leaves}
+use Rattle.poptrie_build.specs.Need.{need_in_u64, trie_nodes, trie_leaves}
 use Rattle.poptrie_build.specs.Stands.{TrieStands}
-use Rattle.block_pool.specs.Places.{count_free, is_out}
-use Rattle.block_pool.specs.Arrays.{AreApart}
+use Rattle.buddy_arena.specs.Places.{count_free, is_out}
+use Rattle.buddy_arena.specs.Arrays.{AreApart}
 use Rattle.poptrie_build.specs.Arrays.{word_arrays, word_leaf_arrays}
 use Rattle.poptrie_build.specs.declared.node.Node.{Node}
 use Rattle.poptrie_build.specs.declared.filling.TrieFull.{TrieFull}
@@ -57,7 +57,7 @@ pub record HasAnswers (t : Shown) : Type 0 where
   pub stands : StandsForAnswers t answers
 
 -- what every trie keeps
-pub record IsKept (t : Shown) : Type 0 where
+pub record IsTrie (t : Shown) : Type 0 where
   pub few : t.direct_bits ≤ 18
   pub words : length t.words ≡ 2 ^ t.direct_bits
   pub nodes : IsSized t.nodes
@@ -66,7 +66,7 @@ pub record IsKept (t : Shown) : Type 0 where
 -- a need is more than there is: of nodes, or else of leaves
 abbrev pub IsTooMuch : (arena need have nodes leaves node_places leaf_places : ℕ) → Type 0
 IsTooMuch arena need have nodes leaves node_places leaf_places =
-    ((arena ≡ 0) × (need ≡ told nodes) × (have ≡ node_places) × (have < nodes)) ⊎ ((arena ≡ 1) × (nodes ≤ node_places) × (need ≡ told leaves) × (have ≡ leaf_places) × (have < leaves))
+    ((arena ≡ 0) × (need ≡ need_in_u64 nodes) × (have ≡ node_places) × (have < nodes)) ⊎ ((arena ≡ 1) × (nodes ≤ node_places) × (need ≡ need_in_u64 leaves) × (have ≡ leaf_places) × (have < leaves))
 
 -- the refusal of entries for which a trie's arenas are too small: it names the nodes where their need is more than their places, else
 -- the leaves

@@ -5,16 +5,15 @@ ghost use Rattle.buddy_arena.specs.Space.{IsSized};
 ghost use Rattle.fib_addr.specs.Answers.{one_answer};
 ghost use Rattle.poptrie_build.specs.Stands.{blank};
 ghost use Rattle.poptrie_build.specs.Need.{need_nodes, need_leaves};
-ghost use Rattle.block_pool.specs.Places.{Keeps, is_out, count_free, IsFresh, since};
+ghost use Rattle.buddy_arena.specs.Places.{Keeps, is_out, count_free, IsFresh, since};
 ghost use Rattle.poptrie_build.specs.Build.{StandsIn};
-ghost use Rattle.block_pool.specs.Arrays.{AreApart};
+ghost use Rattle.buddy_arena.specs.Arrays.{AreApart};
 ghost use Rattle.poptrie_build.specs.Arrays.{node_arrays, leaf_arrays};
 
 use crate::making::make_vectors;
 use crate::node::{Node, rank};
 use crate::slots::{ask, descend};
-use block_pool::{put, take_places};
-use buddy_arena::Arena;
+use buddy_arena::{Arena, put, take_places};
 use fib_addr::Region;
 
 /// The node that stands for the region, by places that come out; nothing where a block is refused. What was out keeps what

@@ -2,7 +2,7 @@
 
 ghost use Rattle.std.specs.Prelude.{◌≡◌, ℕ, ◌+◌, ◌-◌, ◌*◌, ◌^◌, ◌≤◌, List, Bool, None};
 ghost use Rattle.fib_addr.specs.Answers.{one_answer};
-ghost use Rattle.poptrie_build.specs.Need.{told, need_nodes, need_leaves, trie_nodes, trie_leaves};
+ghost use Rattle.poptrie_build.specs.Need.{need_in_u64, need_nodes, need_leaves, trie_nodes, trie_leaves};
 ghost use Rattle.poptrie_build.specs.Tally.{AreParts, IsWholeTally};
 
 use crate::tally::Tally;
@@ -22,9 +22,9 @@ pub struct Needs {
 pub(crate) fn count_node<R: Region>(region: &R) -> Needs
     requires { one_answer (R.bits region.now) (R.answers region.now) ≡ None }
     ensures nodes { (k : ℕ) → R.bits region.now ≤ 6 * k
-        → result.nodes ≡ told (need_nodes k (R.bits region.now) (R.answers region.now)) }
+        → result.nodes ≡ need_in_u64 (need_nodes k (R.bits region.now) (R.answers region.now)) }
     ensures leaves { (k : ℕ) → R.bits region.now ≤ 6 * k
-        → result.leaves ≡ told (need_leaves k (R.bits region.now) (R.answers region.now)) }
+        → result.leaves ≡ need_in_u64 (need_leaves k (R.bits region.now) (R.answers region.now)) }
 {
     let mut tally = Tally::new();
     tally_slots(&region.half(false), 5, &mut tally);
@@ -62,10 +62,10 @@ fn tally_slots<R: Region>(region: &R, depth: u8, tally: &mut Tally)
 pub fn count_words<R: Region>(region: &R, depth: u8) -> Needs
     requires { depth ≤ R.bits region.now }
     ensures nodes { (k : ℕ) → R.bits region.now - depth ≤ 6 * k
-        → result.nodes ≡ told (trie_nodes depth k (R.bits region.now - depth)
+        → result.nodes ≡ need_in_u64 (trie_nodes depth k (R.bits region.now - depth)
         (R.answers region.now)) }
     ensures leaves { (k : ℕ) → R.bits region.now - depth ≤ 6 * k
-        → result.leaves ≡ told (trie_leaves depth k (R.bits region.now - depth)
+        → result.leaves ≡ need_in_u64 (trie_leaves depth k (R.bits region.now - depth)
         (R.answers region.now)) }
 {
     match region.only() {

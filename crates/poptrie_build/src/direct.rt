@@ -5,15 +5,14 @@ ghost use Rattle.fib_addr.specs.Answers.{one_answer};
 ghost use Rattle.buddy_arena.specs.Space.{IsSized};
 ghost use Rattle.poptrie_build.specs.Stands.{blank, node_at};
 ghost use Rattle.poptrie_build.specs.Need.{trie_nodes, trie_leaves};
-ghost use Rattle.block_pool.specs.Places.{Keeps, is_out, count_free, IsFresh, since};
+ghost use Rattle.buddy_arena.specs.Places.{Keeps, is_out, count_free, IsFresh, since};
 ghost use Rattle.poptrie_build.specs.Build.{WordIn, WordsIn};
-ghost use Rattle.block_pool.specs.Arrays.{AreApart};
+ghost use Rattle.buddy_arena.specs.Arrays.{AreApart};
 ghost use Rattle.poptrie_build.specs.Arrays.{node_arrays, leaf_arrays, word_arrays, word_leaf_arrays};
 
 use crate::building::build_node;
 use crate::node::Node;
-use block_pool::{put, take_places};
-use buddy_arena::Arena;
+use buddy_arena::{Arena, put, take_places};
 use fib_addr::{Hop, Region};
 
 /// The top bit of a direct word, which a hop stands beside.

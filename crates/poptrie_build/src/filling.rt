@@ -4,8 +4,8 @@ ghost use Rattle.std.specs.Prelude.{◌≡◌, ℕ, ◌+◌, ◌-◌, ◌*◌, �
 ghost use Rattle.buddy_arena.specs.Space.{IsSized, empty};
 ghost use Rattle.poptrie_build.specs.Need.{trie_nodes, trie_leaves};
 ghost use Rattle.poptrie_build.specs.Stands.{TrieStands};
-ghost use Rattle.block_pool.specs.Places.{count_free, is_out};
-ghost use Rattle.block_pool.specs.Arrays.{AreApart};
+ghost use Rattle.buddy_arena.specs.Places.{count_free, is_out};
+ghost use Rattle.buddy_arena.specs.Arrays.{AreApart};
 ghost use Rattle.poptrie_build.specs.Arrays.{word_arrays, word_leaf_arrays};
 ghost use Rattle.poptrie_build.specs.Tries.{IsTooMuch};
 

@@ -3,7 +3,7 @@
 ghost use Rattle.std.specs.Prelude.{◌≡◌, ℕ, ◌+◌, ◌<◌, Option, None, length};
 ghost use Rattle.poptrie_build.specs.Stands.{IsCanonical};
 ghost use Rattle.poptrie_build.specs.Need.{children, runs};
-ghost use Rattle.poptrie_build.specs.Making.{IsSoFar, kind_in};
+ghost use Rattle.poptrie_build.specs.Making.{IsSoFar, slot_kind};
 
 /// The vectors of a node, how many children it has, and how many leaves.
 #[derive(Clone, Copy)]
@@ -63,9 +63,9 @@ fn with_slot(so_far: Partial, slot: u8, kind: Option<u16>) -> Partial
 /// The canonical vectors of a node whose slots are these: the hop of a leaf, or nothing where the slot has a node.
 pub fn make_vectors(kinds: &[Option<u16>]) -> Vectors
     requires { length kinds.now ≡ 64 }
-    ensures canonical { IsCanonical result.vector result.leafvec (kind_in kinds.now) }
-    ensures nodes { result.nodes ≡ children (kind_in kinds.now) }
-    ensures leaves { result.leaves ≡ runs (kind_in kinds.now) }
+    ensures canonical { IsCanonical result.vector result.leafvec (slot_kind kinds.now) }
+    ensures nodes { result.nodes ≡ children (slot_kind kinds.now) }
+    ensures leaves { result.leaves ≡ runs (slot_kind kinds.now) }
 {
     let mut so_far = Partial {
         vector: 0,

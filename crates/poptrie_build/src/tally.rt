@@ -1,13 +1,13 @@
 //! What the slots of a node need, counted one after the other.
 
 ghost use Rattle.std.specs.Prelude.{◌≡◌, ℕ, ◌+◌, ◌<◌, ◌≤◌, Option, None};
-ghost use Rattle.block_pool.specs.Powers.{up};
+ghost use Rattle.buddy_arena.specs.Powers.{up};
 ghost use Rattle.poptrie_build.specs.Need.{children, runs};
 ghost use Rattle.poptrie_build.specs.Strides.{total};
 ghost use Rattle.poptrie_build.specs.Tally.{AreLeaves, IsTally, IsNeed};
 
 use crate::counts::Needs;
-use block_pool::block_size;
+use buddy_arena::block_size;
 
 /// What the slots so far of a node are, and what they need.
 #[derive(Clone, Copy)]

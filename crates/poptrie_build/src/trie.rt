@@ -25,13 +25,13 @@ pub struct Trie {
 }
 
 impl Model for Trie {
-    ghost use Rattle.poptrie_build.specs.Tries.{Shown, IsKept, HasAnswers};
+    ghost use Rattle.poptrie_build.specs.Tries.{Shown, IsTrie, HasAnswers};
 
     ghost Value = { Shown };
 
     ghost view = { λ t. record { family = t.family; direct_bits = t.direct_bits; words = t.words.items; nodes = t.nodes; leaves = t.leaves } };
 
-    ghost invariant = { λ t. IsKept (record { family = t.family; direct_bits = t.direct_bits; words = t.words.items; nodes = t.nodes; leaves = t.leaves })
+    ghost invariant = { λ t. IsTrie (record { family = t.family; direct_bits = t.direct_bits; words = t.words.items; nodes = t.nodes; leaves = t.leaves })
         × HasAnswers (record { family = t.family; direct_bits = t.direct_bits; words = t.words.items; nodes = t.nodes; leaves = t.leaves }) };
 }
 
@@ -54,7 +54,7 @@ impl Trie {
     ghost use Rattle.table_model.specs.Width.{width};
     ghost use Rattle.fib_addr.specs.Views.{addr_as};
     ghost use Rattle.table_model.specs.Entries.{Entries, match_in};
-    ghost use Rattle.poptrie_build.specs.Need.{told};
+    ghost use Rattle.poptrie_build.specs.Need.{need_in_u64};
     ghost use Rattle.fib_addr.specs.Answers.{all_answers};
     ghost use Rattle.poptrie_build.specs.Strides.{strides};
     ghost use Rattle.poptrie_build.specs.Tries.{StandsFor, IsRefused, node_need, leaf_need, rest, visits_of};
@@ -160,9 +160,9 @@ impl Trie {
     /// How many places its nodes and its leaves need.
     pub fn needs(&self) -> (u64, u64)
         ensures nodes { (L : Entries) → StandsFor self.now L
-            → result.0 ≡ told (node_need self.now.family self.now.direct_bits L) }
+            → result.0 ≡ need_in_u64 (node_need self.now.family self.now.direct_bits L) }
         ensures leaves { (L : Entries) → StandsFor self.now L
-            → result.1 ≡ told (leaf_need self.now.family self.now.direct_bits L) }
+            → result.1 ≡ need_in_u64 (leaf_need self.now.family self.now.direct_bits L) }
     {
         (
             self.nodes.places() - self.nodes.free_total(),

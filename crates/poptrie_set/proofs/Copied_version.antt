@@ -9,10 +9,10 @@ use Rattle.table_model.specs.Bits.{bits_of}
 use Rattle.table_model.specs.declared.family.Family.{Family}
 use Rattle.table_model.specs.Entries.{Entries}
 use Rattle.buddy_arena.specs.Space.{Space}
-use Rattle.block_pool.specs.Places.{count_free, is_out, since}
-use Rattle.block_pool.specs.Arrays.{Array, AreApart, places_of}
-use Rattle.block_pool.specs.Blocks.{Held, blocks_of}
-use Rattle.block_pool.proofs.Parting.{part_right}
+use Rattle.buddy_arena.specs.Places.{count_free, is_out, since}
+use Rattle.buddy_arena.specs.Arrays.{Array, AreApart, places_of}
+use Rattle.buddy_arena.specs.Blocks.{Held, blocks_of}
+use Rattle.buddy_arena.proofs.Parting.{part_right}
 use Rattle.fib_addr.specs.Answers.{all_answers, part}
 use Rattle.poptrie_build.specs.Strides.{strides}
 use Rattle.poptrie_build.specs.Stands.{TrieStands, blank}
@@ -20,18 +20,18 @@ use Rattle.poptrie_build.specs.Arrays.{word_arrays, word_leaf_arrays}
 use Rattle.poptrie_build.specs.Tries.{rest, node_need, leaf_need}
 use Rattle.poptrie_build.specs.declared.node.Node.{Node}
 use Rattle.poptrie_build.proofs.Filled.{words_stand, strides_do}
-use Rattle.poptrie_copy.specs.declared.slots.Store.{Store}
-use Rattle.poptrie_copy.specs.Changes.{Gains}
-use Rattle.poptrie_copy.specs.Words.{WordRow}
-use Rattle.poptrie_copy.specs.Stores.{stored, Ascends, AreStores}
-use Rattle.poptrie_copy.proofs.Deeper.{word_deeper, trie_nodes_deeper, trie_leaves_deeper, words_fewer, word_leaves_fewer}
-use Rattle.poptrie_copy.proofs.Held.{words_held}
-use Rattle.poptrie_copy.proofs.Like.{like_under}
-use Rattle.poptrie_copy.proofs.Whole.{row_of, trie_of, nodes_of, leaves_of, nodes_filled, leaves_filled}
-use Rattle.poptrie_copy.proofs.Word_row.{words_same}
-use Rattle.poptrie_set.specs.Renewals.{IsMerged, Renews}
+use Rattle.path_copying.specs.declared.slots.Store.{Store}
+use Rattle.path_copying.specs.Changes.{Gains}
+use Rattle.path_copying.specs.Words.{WordRow}
+use Rattle.path_copying.specs.Stores.{stored, SlotsAscend, AreStores}
+use Rattle.path_copying.proofs.Deeper.{word_deeper, trie_nodes_deeper, trie_leaves_deeper, words_fewer, word_leaves_fewer}
+use Rattle.path_copying.proofs.Held.{words_held}
+use Rattle.path_copying.proofs.Like.{like_under}
+use Rattle.path_copying.proofs.Whole.{row_of, trie_of, nodes_of, leaves_of, nodes_filled, leaves_filled}
+use Rattle.path_copying.proofs.Word_row.{words_same}
+use Rattle.poptrie_set.specs.Renewals.{IsSpliced, Rebuilds}
 use Rattle.poptrie_set.specs.Version.{IsVersion}
-use Rattle.poptrie_set.specs.Lives.{Seen, Beside, covers, stores_of}
+use Rattle.poptrie_set.specs.Lives.{Seen, Beside, stores_cover, stores_of}
 use Rattle.poptrie_set.specs.Lives.{Store as Stored}
 use Rattle.poptrie_set.proofs.Kept.{Grows}
 use Rattle.poptrie_set.proofs.Prepared.{prepared, prepare_shows}
@@ -69,7 +69,7 @@ version_row f s nodes leaves direct L x y v k le =
 
 -- ---- the words made anew
 module _ (f : Family) (s : ℕ) (nodes nodes2 : Space Node) (nb nb2 : Held) (leaves leaves2 : Space ℕ) (lb lb2 : Held) (direct : List ℕ) (stores : List Store) (L M : Entries) (x y : List Array) (v : IsVersion f s nodes leaves direct L x y) (gn : Gains blank nodes nb nodes2 nb2) (gl : Gains 0 leaves lb leaves2 lb2) (rn : nb.replaced ≡ []) (rl : lb.replaced ≡ [])
-    (p : List Bool) (F : List Bool → ℕ) (merges : IsMerged p s (rest f s) F (λ u. part (bits_of s u) (all_answers f L)) (all_answers f M)) (re : Renews nodes nb leaves lb (stored [] direct) nodes2 nb2 leaves2 lb2 (stored stores direct) p s (rest f s) F) where
+    (p : List Bool) (F : List Bool → ℕ) (merges : IsSpliced p s (rest f s) F (λ u. part (bits_of s u) (all_answers f L)) (all_answers f M)) (re : Rebuilds nodes nb leaves lb (stored [] direct) nodes2 nb2 leaves2 lb2 (stored stores direct) p s (rest f s) F) where
   abbrev d : ℕ
   d = rest f s
 
@@ -128,15 +128,15 @@ gains_grow e s t a b none g =
       left = ap (λ (x : List Array). count_free t + places_of x) (sym is) ∙ g.left;
     }
 
-pub not_covered : (stores : List Store) (words : List ℕ) (v : ℕ) → covers (stores_of stores) v ≡ false → stored stores words v ≡ slice_index words v
+pub not_covered : (stores : List Store) (words : List ℕ) (v : ℕ) → stores_cover (stores_of stores) v ≡ false → stored stores words v ≡ slice_index words v
 not_covered [] words v e = refl
 not_covered (s ∷ stores) words v e = by (not_covered stores words v) (nat_eq s.slot v) refl e
   where
-    by : (covers (stores_of stores) v ≡ false → stored stores words v ≡ slice_index words v) → (b : Bool) → nat_eq s.slot v ≡ b → (b || covers (stores_of stores) v) ≡ false → stored (s ∷ stores) words v ≡ slice_index words v
+    by : (stores_cover (stores_of stores) v ≡ false → stored stores words v ≡ slice_index words v) → (b : Bool) → nat_eq s.slot v ≡ b → (b || stores_cover (stores_of stores) v) ≡ false → stored (s ∷ stores) words v ≡ slice_index words v
     by again true q c = cc
     by again false q c = ap (λ (b : Bool). let r : ℕ = cond b s.word (stored stores words v) in r) (ne_eqb v s.slot (λ z. eqb-false s.slot v q (sym z))) ∙ again c
 
-first_due : (stores : List Store) (words : List ℕ) → Ascends stores → AllByRecursion (λ (s : Store). stored stores words s.slot ≡ s.word) stores
+first_due : (stores : List Store) (words : List ℕ) → SlotsAscend stores → AllByRecursion (λ (s : Store). stored stores words s.slot ≡ s.word) stores
 first_due [] words a = tt
 first_due (s ∷ stores) words a = (
   ap (λ (b : Bool). let r : ℕ = cond b s.word (stored stores words s.slot) in r) (eq-eqb s.slot s.slot refl),
@@ -156,7 +156,7 @@ due_told n stores words (s ∷ rest) l a b = ((a.0, (let low = a.0 in applied_at
 
 -- both versions stand, as long as what is replaced has no more places than the old version needs
 pub copied_shows : (l : Seen) (nodes2 : Space Node) (leaves2 : Space ℕ) (nb nb2 lb lb2 : Held) (stores : List Store) (L M : Entries) → IsVersion l.family l.direct_bits l.nodes.space l.leaves.space l.words L (blocks_of l.nodes.retired) (blocks_of l.leaves.retired) → nb.taken ≡ [] → lb.taken ≡ [] → nb.replaced ≡ [] → lb.replaced ≡ [] → Gains blank l.nodes.space nb nodes2 nb2 → Gains 0 l.leaves.space lb leaves2 lb2 →
-    (p : List Bool) (F : List Bool → ℕ) → IsMerged p l.direct_bits (rest l.family l.direct_bits) F (λ u. part (bits_of l.direct_bits u) (all_answers l.family L)) (all_answers l.family M) → Renews l.nodes.space nb l.leaves.space lb (stored [] l.words) nodes2 nb2 leaves2 lb2 (stored stores l.words) p l.direct_bits (rest l.family l.direct_bits) F → AreStores l.words stores (2 ^ l.direct_bits) → places_of nb2.replaced ≤ node_need l.family l.direct_bits L → places_of lb2.replaced ≤ leaf_need l.family l.direct_bits L →
+    (p : List Bool) (F : List Bool → ℕ) → IsSpliced p l.direct_bits (rest l.family l.direct_bits) F (λ u. part (bits_of l.direct_bits u) (all_answers l.family L)) (all_answers l.family M) → Rebuilds l.nodes.space nb l.leaves.space lb (stored [] l.words) nodes2 nb2 leaves2 lb2 (stored stores l.words) p l.direct_bits (rest l.family l.direct_bits) F → AreStores l.words stores (2 ^ l.direct_bits) → places_of nb2.replaced ≤ node_need l.family l.direct_bits L → places_of lb2.replaced ≤ leaf_need l.family l.direct_bits L →
     Beside (prepared l nodes2 leaves2 nb2.taken nb2.replaced lb2.taken lb2.replaced (stores_of stores) (applied stores l.words) L M) L M l.words (applied stores l.words)
 copied_shows l nodes2 leaves2 nb nb2 lb lb2 stores L M v tn tl rn rl gn gl p F merges re are few few2 =
     prepare_shows l nodes2 leaves2 nb2.taken nb2.replaced lb2.taken lb2.replaced (stores_of stores) (applied stores l.words) L M v (gains_grow blank l.nodes.space nodes2 nb nb2 tn gn) (gains_grow 0 l.leaves.space leaves2 lb lb2 tl gl)

@@ -3,7 +3,7 @@ use Rattle.std.proofs.Common.{◌≡◌, ℕ, ◌+◌, ◌*◌, ◌-◌, ◌^◌
 use Rattle.std.proofs.lemmas.Bool.{cases_lt}
 use Rattle.std.proofs.Math.Pow.{pow_mono}
 use Rattle.std.proofs.Math.Nat.{mul-le-mul}
-use Rattle.buddy_arena.specs.Space.{total}
+use Rattle.buddy_arena.specs.Space.{free_count}
 use Rattle.buddy_arena.specs.declared.arena.Full.{Full}
 use Rattle.buddy_arena.proofs.Totals.{total_le}
 use Rattle.poptrie_set.proofs.Ranges.{each_range, spread}
@@ -17,10 +17,10 @@ out_few order bound t d r e h small few =
     let m : r * d ≤ 64 * bound = mul-le-mul small few in
     omega (arith, s, x, m, h)
 
-pub crowded : (order asked bound : ℕ) (free : List Bool) (e : Full) → length free ≡ 2 ^ order → IsShort order asked free e → 2 ^ order + asked ≤ bound + total free → asked ≤ bound → 2 ^ order ≤ 64 * bound
+pub crowded : (order asked bound : ℕ) (free : List Bool) (e : Full) → length free ≡ 2 ^ order → IsShort order asked free e → 2 ^ order + asked ≤ bound + free_count free → asked ≤ bound → 2 ^ order ≤ 64 * bound
 crowded order asked bound free e long s few enough =
     let t = total_le s.then in
     elim (cases_lt order e.order) [
       | inl a ↦ (let p : 2 ^ order ≤ 2 ^ e.order = pow_mono {i = order} {j = e.order} (omega (arith, a)) in let f = total_le free in let l = s.left in omega (arith, p, l, few, f, long, t, s.long, enough))
-      | inr a ↦ out_few order bound (total s.then) (2 ^ order - total s.then) (2 ^ e.order) (omega (arith, t, s.long)) (each_range order e.order s.then s.long a s.none) s.small (omega (arith, s.left, few, t, s.long))
+      | inr a ↦ out_few order bound (free_count s.then) (2 ^ order - free_count s.then) (2 ^ e.order) (omega (arith, t, s.long)) (each_range order e.order s.then s.long a s.none) s.small (omega (arith, s.left, few, t, s.long))
     ]

@@ -8,19 +8,19 @@ use Rattle.buddy_arena.specs.Space.{Space}
 use Rattle.poptrie_build.specs.Strides.{strides, visits, address}
 use Rattle.fib_addr.specs.Answers.{part, one_answer, all_answers}
 use Rattle.poptrie_build.specs.Stands.{blank, node_at, BySlot}
-use Rattle.block_pool.specs.Places.{is_out}
-use Rattle.block_pool.specs.Arrays.{Array, AreApart, among, has}
+use Rattle.buddy_arena.specs.Places.{is_out}
+use Rattle.buddy_arena.specs.Arrays.{Array, AreApart, among, has}
 use Rattle.poptrie_build.specs.Arrays.{word_arrays, word_leaf_arrays}
 use Rattle.poptrie_build.specs.Tries.{rest}
 use Rattle.poptrie_build.specs.declared.node.Node.{Node}
 use Rattle.poptrie_build.proofs.Carry.{Carries, carry}
-use Rattle.block_pool.proofs.Parting.{part_right}
+use Rattle.buddy_arena.proofs.Parting.{part_right}
 use Rattle.poptrie_set.specs.Rooms.{safe}
 use Rattle.poptrie_set.specs.Version.{IsVersion}
 use Rattle.poptrie_set.specs.Lives.{Seen, Beside}
 use Rattle.poptrie_set.specs.Reading.{ReadsOn}
-use Rattle.block_pool.proofs.Sets.{place_is, or_left, or_right}
-use Rattle.poptrie_copy.proofs.Held.{words_held}
+use Rattle.buddy_arena.proofs.Sets.{place_is, or_left, or_right}
+use Rattle.path_copying.proofs.Held.{words_held}
 use Rattle.poptrie_set.proofs.Read_on.{reads_on}
 use Rattle.poptrie_set.proofs.Safe.{before_safe, after_safe}
 

@@ -19,7 +19,7 @@ use Rattle.poptrie_build.proofs.Filled.{region_of, key_is, at_most_128}
 use Rattle.poptrie_build.proofs.Walk.{below_hop, below_visits, default_same}
 use Rattle.poptrie_build.proofs.Word.{direct_hop, slot_by}
 use Rattle.poptrie_set.specs.Rooms.{safe}
-use Rattle.poptrie_set.specs.Lives.{Seen, ShowsIn, Store, covers}
+use Rattle.poptrie_set.specs.Lives.{Seen, ShowsIn, Store, stores_cover}
 use Rattle.poptrie_set.specs.Reading.{ReadsOn, LeadsOn, LeadsIn, key_after}
 use Rattle.poptrie_set.specs.declared.reading.At.{At}
 use Rattle.poptrie_set.specs.declared.reading.At.TheVariants as at
@@ -77,7 +77,7 @@ module _ (f : Family) (s : ℕ) (E : Entries) (a : Addr) (fam : a.family ≡ f) 
       (h.small, h.hop ∙ hop_are, sym (h.none ∙ visits_are))
 
 -- ---- the word that is published
-made_some : (n : ℕ) (xs : List Store) (v : ℕ) → covers (take n xs) v ≡ true → (m : ℕ) × (n ≡ suc m)
+made_some : (n : ℕ) (xs : List Store) (v : ℕ) → stores_cover (take n xs) v ≡ true → (m : ℕ) × (n ≡ suc m)
 made_some zero xs v e = cc
 made_some (suc m) xs v e = (m, refl)
 
@@ -95,9 +95,9 @@ module _ (l : Seen) (L M : Entries) (sh : ShowsIn l L M) (a : Addr) (fam : a.fam
   shifted = omega arith
 
   pub node_starts : (word : ℕ) → word ≡ get_or l.words v 0 → word < 2 ^ 31 → (since : ℕ) → ReadsOn (visits_of l.direct_bits (published_in l L M a) (addr_as a)) l.nodes.space.cells (safe l.nodes l.made since) l.leaves.space.cells (safe l.leaves l.made since) word (key_after l.direct_bits 0 a) (match_in (published_in l L M a) (addr_as a))
-  node_starts word is low since = by (covers (take l.made l.stores) v) refl
+  node_starts word is low since = by (stores_cover (take l.made l.stores) v) refl
     where
-      by : (c : Bool) → covers (take l.made l.stores) v ≡ c → ReadsOn (visits_of l.direct_bits (cond c M L) (addr_as a)) l.nodes.space.cells (safe l.nodes l.made since) l.leaves.space.cells (safe l.leaves l.made since) word (key_after l.direct_bits 0 a) (match_in (cond c M L) (addr_as a))
+      by : (c : Bool) → stores_cover (take l.made l.stores) v ≡ c → ReadsOn (visits_of l.direct_bits (cond c M L) (addr_as a)) l.nodes.space.cells (safe l.nodes l.made since) l.leaves.space.cells (safe l.leaves l.made since) word (key_after l.direct_bits 0 a) (match_in (cond c M L) (addr_as a))
       by false e =
           let w : word ≡ get_or sh.0 v 0 = is ∙ sh.2.unstored v below e in
           subst (λ (x : ℕ). ReadsOn (visits_of l.direct_bits L (addr_as a)) l.nodes.space.cells (safe l.nodes l.made since) l.leaves.space.cells (safe l.leaves l.made since) x (key_after l.direct_bits 0 a) (match_in L (addr_as a))) (sym w)
@@ -110,9 +110,9 @@ module _ (l : Seen) (L M : Entries) (sh : ShowsIn l L M) (a : Addr) (fam : a.fam
           (reads_are l.family l.direct_bits M a fam few l.nodes.space.cells (safe l.nodes (suc m.0) since) l.leaves.space.cells (safe l.leaves (suc m.0) since) (get_or sh.1 v 0) (reads_after l L M sh.0 sh.1 sh.2 since v (key_as a * 2 ^ l.direct_bits % 2 ^ 128) below shifted deep m.0 (omega (arith, w)))))
 
   pub hop_starts : (word : ℕ) → word ≡ get_or l.words v 0 → 2 ^ 31 ≤ word → (word - 2 ^ 31 < 2 ^ 16) × (word - 2 ^ 31 ≡ match_in (published_in l L M a) (addr_as a)) × (visits_of l.direct_bits (published_in l L M a) (addr_as a) ≡ 0)
-  hop_starts word is big = by (covers (take l.made l.stores) v) refl
+  hop_starts word is big = by (stores_cover (take l.made l.stores) v) refl
     where
-      by : (c : Bool) → covers (take l.made l.stores) v ≡ c → (word - 2 ^ 31 < 2 ^ 16) × (word - 2 ^ 31 ≡ match_in (cond c M L) (addr_as a)) × (visits_of l.direct_bits (cond c M L) (addr_as a) ≡ 0)
+      by : (c : Bool) → stores_cover (take l.made l.stores) v ≡ c → (word - 2 ^ 31 < 2 ^ 16) × (word - 2 ^ 31 ≡ match_in (cond c M L) (addr_as a)) × (visits_of l.direct_bits (cond c M L) (addr_as a) ≡ 0)
       by false e =
           let w : word ≡ get_or sh.0 v 0 = is ∙ sh.2.unstored v below e in
           subst (λ (x : ℕ). (x - 2 ^ 31 < 2 ^ 16) × (x - 2 ^ 31 ≡ match_in L (addr_as a)) × (visits_of l.direct_bits L (addr_as a) ≡ 0)) (sym w)

@@ -3,10 +3,10 @@ use Rattle.std.proofs.Common.{◌≡◌, ℕ, suc, ◌≤◌, List, [], ◌∷�
 use Rattle.std.specs.List.{AllByRecursion}
 use Rattle.buddy_arena.specs.Space.{Space}
 use Rattle.poptrie_build.specs.Stands.{blank}
-use Rattle.block_pool.specs.Arrays.{Array}
+use Rattle.buddy_arena.specs.Arrays.{Array}
 use Rattle.poptrie_build.specs.declared.node.Node.{Node}
 use Rattle.poptrie_build.proofs.Carry.{Carries}
-use Rattle.block_pool.specs.Blocks.{Gives, early, late, blocks_of}
+use Rattle.buddy_arena.specs.Blocks.{GivesBack, early, late, blocks_of}
 use Rattle.poptrie_set.specs.Rooms.{safe}
 use Rattle.poptrie_set.specs.Lives.{Seen, Store}
 use Rattle.poptrie_set.specs.Fits.{Reader, ReadsIn, FitsIn}
@@ -42,7 +42,7 @@ module _ (l : Seen) (os : List Reader) (f : FitsIn l os) where
       )) f
 
   module _ (nodes : Space Node) (leaves : Space ℕ) where
-    pub cancel_fits : l.made ≡ 0 → Gives l.nodes.taken l.nodes.space nodes → Gives l.leaves.taken l.leaves.space leaves → FitsIn (at_its_cancel l nodes leaves) os
+    pub cancel_fits : l.made ≡ 0 → GivesBack l.nodes.taken l.nodes.space nodes → GivesBack l.leaves.taken l.leaves.space leaves → FitsIn (at_its_cancel l nodes leaves) os
     cancel_fits z a b = fits_all l (at_its_cancel l nodes leaves) os
         (λ o r. (
           r.0,
@@ -52,7 +52,7 @@ module _ (l : Seen) (os : List Reader) (f : FitsIn l os) where
         )) f
 
     -- what is retired at an end no later than every open lookup's start is given back
-    pub release_fits : (since : ℕ) → AllByRecursion (λ (o : Reader). since ≤ o.since) os → l.nodes.taken ≡ [] → l.leaves.taken ≡ [] → Gives (blocks_of (early since l.nodes.retired)) l.nodes.space nodes → Gives (blocks_of (early since l.leaves.retired)) l.leaves.space leaves → FitsIn (record l { nodes = record { space = nodes; taken = []; replaced = []; retired = late since l.nodes.retired }; leaves = record { space = leaves; taken = []; replaced = []; retired = late since l.leaves.retired } }) os
+    pub release_fits : (since : ℕ) → AllByRecursion (λ (o : Reader). since ≤ o.since) os → l.nodes.taken ≡ [] → l.leaves.taken ≡ [] → GivesBack (blocks_of (early since l.nodes.retired)) l.nodes.space nodes → GivesBack (blocks_of (early since l.leaves.retired)) l.leaves.space leaves → FitsIn (record l { nodes = record { space = nodes; taken = []; replaced = []; retired = late since l.nodes.retired }; leaves = record { space = leaves; taken = []; replaced = []; retired = late since l.leaves.retired } }) os
     release_fits since all n1 n2 a b = go os all f
       where
         one : (o : Reader) → since ≤ o.since → ReadsIn l o → ReadsIn (record l { nodes = record { space = nodes; taken = []; replaced = []; retired = late since l.nodes.retired }; leaves = record { space = leaves; taken = []; replaced = []; retired = late since l.leaves.retired } }) o

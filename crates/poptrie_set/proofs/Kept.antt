@@ -8,19 +8,19 @@ use Rattle.buddy_arena.specs.Space.{Space}
 use Rattle.poptrie_build.specs.Strides.{strides}
 use Rattle.fib_addr.specs.Answers.{part, one_answer, all_answers}
 use Rattle.poptrie_build.specs.Stands.{blank, node_at}
-use Rattle.block_pool.specs.Places.{Keeps, is_out, count_free, since}
+use Rattle.buddy_arena.specs.Places.{Keeps, is_out, count_free, since}
 use Rattle.poptrie_build.specs.Build.{WordsIn, StandsIn}
-use Rattle.block_pool.specs.Arrays.{Array, AreApart, places_of}
+use Rattle.buddy_arena.specs.Arrays.{Array, AreApart, places_of}
 use Rattle.poptrie_build.specs.Arrays.{word_arrays, word_leaf_arrays}
 use Rattle.poptrie_build.specs.Tries.{rest}
 use Rattle.poptrie_build.specs.declared.node.Node.{Node}
 use Rattle.poptrie_build.proofs.Carry.{Carries, carry, map_slot}
 use Rattle.poptrie_build.proofs.Filled.{words_stand}
-use Rattle.block_pool.proofs.Parting.{since_now, since_not, apart_append, part_right}
+use Rattle.buddy_arena.proofs.Parting.{since_now, since_not, apart_append, part_right}
 use Rattle.poptrie_build.proofs.Wording.{words_kept}
 use Rattle.poptrie_set.specs.Version.{IsVersion}
-use Rattle.block_pool.proofs.Sets.{places_append}
-use Rattle.poptrie_copy.proofs.Held.{words_held}
+use Rattle.buddy_arena.proofs.Sets.{places_append}
+use Rattle.path_copying.proofs.Held.{words_held}
 
 pub words_carried : (s k : ℕ) (words : List ℕ) (nodes after : List Node) (N M : ℕ → Bool) (leaves others : List ℕ) (L R : ℕ → Bool) (d : ℕ) (f : List Bool → ℕ) → Carries blank nodes N after M → Carries 0 leaves L others R → WordsIn s words k nodes N leaves L d f → WordsIn s words k after M others R d f
 words_carried s k words nodes after N M leaves others L R d f a b w v l =

@@ -3,8 +3,8 @@ use Rattle.std.proofs.Common.{◌≡◌, ℕ, zero, suc, ◌+◌, ◌≤◌, Lis
 use Rattle.std.specs.Prelude.{nat_le}
 use Rattle.std.proofs.lemmas.Bool.{eq-eqb, eqb-true, leb-true, leb-false}
 use Rattle.std.proofs.lemmas.List.{get_or-drop}
-use Rattle.block_pool.specs.Arrays.{places_of}
-use Rattle.block_pool.specs.Blocks.{Retired, blocks_of, early, late}
+use Rattle.buddy_arena.specs.Arrays.{places_of}
+use Rattle.buddy_arena.specs.Blocks.{Retired, blocks_of, early, late}
 use Rattle.poptrie_set.specs.Past.{retired_at}
 use Rattle.poptrie_set.specs.Crowds.{sum}
 

@@ -5,17 +5,17 @@ use Rattle.table_model.specs.declared.family.Family.{Family}
 use Rattle.table_model.specs.Entries.{Entries}
 use Rattle.std.proofs.Math.ListN.{length-set}
 use Rattle.buddy_arena.specs.Space.{Space, IsSized}
-use Rattle.block_pool.specs.Places.{is_out}
-use Rattle.block_pool.specs.Arrays.{Array, AreApart}
-use Rattle.block_pool.specs.Blocks.{Held, AreHeldIn, Gives, blocks_of, ended, cancelled}
-use Rattle.block_pool.proofs.Sets.{swap}
+use Rattle.buddy_arena.specs.Places.{is_out}
+use Rattle.buddy_arena.specs.Arrays.{Array, AreApart}
+use Rattle.buddy_arena.specs.Blocks.{Held, AreHeldIn, GivesBack, blocks_of, ended, cancelled}
+use Rattle.buddy_arena.proofs.Sets.{swap}
 use Rattle.poptrie_build.specs.Tries.{node_need, leaf_need}
 use Rattle.poptrie_build.specs.declared.node.Node.{Node}
 use Rattle.poptrie_set.specs.Rooms.{Room, room_of, room_at_end}
 use Rattle.poptrie_set.specs.Lives.{Seen, Store, Beside, ShowsIn, IsLive, stores_of}
 use Rattle.poptrie_set.specs.Fits.{Reader, FitsIn}
 use Rattle.poptrie_set.specs.Past.{PastIn}
-use Rattle.poptrie_copy.specs.declared.slots.Store.{Store as Stored}
+use Rattle.path_copying.specs.declared.slots.Store.{Store as Stored}
 use Rattle.poptrie_set.proofs.Steps.{store_shows, end_shows, cancel_shows, at_its_end, at_its_cancel, blocks_append}
 use Rattle.poptrie_set.proofs.Fitting.{store_fits}
 use Rattle.poptrie_set.proofs.Passed.{end_past}
@@ -79,7 +79,7 @@ module _ (f : Family) (s : ℕ) (words : List ℕ) where
 pub end_step : (l : Seen) → length l.stores ≤ l.made → l.made ≤ length l.stores → (L M : Entries) → ShowsIn l L M → ShowsIn (at_its_end l) M M
 end_step l a b L M sh = (sh.1, sh.1, end_shows l L M sh.0 sh.1 sh.2 (omega arith))
 
-pub cancel_step : (l : Seen) (nodes : Space Node) (leaves : Space ℕ) → l.made ≡ 0 → Gives l.nodes.taken l.nodes.space nodes → Gives l.leaves.taken l.leaves.space leaves → (L M : Entries) → ShowsIn l L M → ShowsIn (at_its_cancel l nodes leaves) L L
+pub cancel_step : (l : Seen) (nodes : Space Node) (leaves : Space ℕ) → l.made ≡ 0 → GivesBack l.nodes.taken l.nodes.space nodes → GivesBack l.leaves.taken l.leaves.space leaves → (L M : Entries) → ShowsIn l L M → ShowsIn (at_its_cancel l nodes leaves) L L
 cancel_step l nodes leaves z x y L M sh = (sh.0, sh.0, cancel_shows l nodes leaves L M sh.0 sh.1 sh.2 z x y)
 
 pub past_step : (l : Seen) (L M : Entries) (ns ls : List ℕ) → ShowsIn l L M → PastIn l ns ls → PastIn (at_its_end l) (ns ++ node_need l.family l.direct_bits L ∷ []) (ls ++ leaf_need l.family l.direct_bits L ∷ [])

@@ -4,9 +4,9 @@ use Rattle.std.specs.Prelude.{nat_eq, nat_le}
 use Rattle.std.proofs.lemmas.Bool.{cases_lt, cases_eq, ne_eqb, eq-eqb}
 use Rattle.std.proofs.lemmas.List.{length-append}
 use Rattle.table_model.specs.Entries.{Entries}
-use Rattle.block_pool.specs.Arrays.{Array, places_of}
+use Rattle.buddy_arena.specs.Arrays.{Array, places_of}
 use Rattle.poptrie_build.specs.Tries.{node_need, leaf_need}
-use Rattle.block_pool.specs.Blocks.{Retired, at_end, late}
+use Rattle.buddy_arena.specs.Blocks.{Retired, at_end, late}
 use Rattle.poptrie_set.specs.Lives.{Seen, Beside}
 use Rattle.poptrie_set.specs.Past.{PastIn, retired_at}
 use Rattle.poptrie_set.proofs.Steps.{at_its_end}

@@ -5,20 +5,20 @@ use Rattle.std.proofs.lemmas.Grind.{same_number_lists}
 use Rattle.table_model.specs.Entries.{Entries}
 use Rattle.buddy_arena.specs.Space.{Space}
 use Rattle.poptrie_build.specs.Stands.{blank}
-use Rattle.block_pool.specs.Arrays.{Array, places_of}
+use Rattle.buddy_arena.specs.Arrays.{Array, places_of}
 use Rattle.poptrie_build.specs.declared.node.Node.{Node}
-use Rattle.block_pool.specs.Blocks.{blocks_of}
+use Rattle.buddy_arena.specs.Blocks.{blocks_of}
 use Rattle.poptrie_build.specs.Tries.{node_need, leaf_need}
 use Rattle.poptrie_set.specs.Version.{IsVersion}
-use Rattle.poptrie_set.specs.Lives.{Seen, Store, Beside, ShowsIn, covers}
+use Rattle.poptrie_set.specs.Lives.{Seen, Store, Beside, ShowsIn, stores_cover}
 use Rattle.poptrie_set.proofs.Kept.{Grows, version_grown}
 
 -- nothing is pending
 module _ (l : Seen) (L M : Entries) (old new : List ℕ) (b : Beside l L M old new) (stores : l.stores ≡ []) (nodes : l.nodes.taken ≡ []) (leaves : l.leaves.taken ≡ []) where
   words_old : l.words ≡ old
-  words_old = same_number_lists l.words old (b.words ∙ sym b.before.words.words) (λ v h. b.unstored v (omega (arith, h, b.words)) (ap (λ (s : List Store). covers (take l.made s) v) stores ∙ none l.made v))
+  words_old = same_number_lists l.words old (b.words ∙ sym b.before.words.words) (λ v h. b.unstored v (omega (arith, h, b.words)) (ap (λ (s : List Store). stores_cover (take l.made s) v) stores ∙ none l.made v))
     where
-      none : (n v : ℕ) → covers (take n []) v ≡ false
+      none : (n v : ℕ) → stores_cover (take n []) v ≡ false
       none zero v = refl
       none (suc n) v = refl
 
@@ -58,7 +58,7 @@ module _ (l : Seen) (nodes : Space Node) (leaves : Space ℕ) (taken replaced ta
 
   pub prepare_shows : IsVersion l.family l.direct_bits l.nodes.space l.leaves.space l.words L (blocks_of l.nodes.retired) (blocks_of l.leaves.retired) → Grows blank l.nodes.space nodes taken → Grows 0 l.leaves.space leaves taken2 →
       IsVersion l.family l.direct_bits nodes leaves new M (replaced ++ blocks_of l.nodes.retired) (replaced2 ++ blocks_of l.leaves.retired) →
-      places_of replaced ≤ node_need l.family l.direct_bits L → places_of replaced2 ≤ leaf_need l.family l.direct_bits L → ((v : ℕ) → v < 2 ^ l.direct_bits → covers stores v ≡ false → get_or l.words v 0 ≡ get_or new v 0) → AllByRecursion (λ (s : Store). (s.0 < 2 ^ l.direct_bits) × (get_or new s.0 0 ≡ s.1)) stores → Beside prepared L M l.words new
+      places_of replaced ≤ node_need l.family l.direct_bits L → places_of replaced2 ≤ leaf_need l.family l.direct_bits L → ((v : ℕ) → v < 2 ^ l.direct_bits → stores_cover stores v ≡ false → get_or l.words v 0 ≡ get_or new v 0) → AllByRecursion (λ (s : Store). (s.0 < 2 ^ l.direct_bits) × (get_or new s.0 0 ≡ s.1)) stores → Beside prepared L M l.words new
   prepare_shows v a b w few few2 same due = record {
     before = version_grown l.family l.direct_bits l.nodes.space nodes l.leaves.space leaves l.words L (blocks_of l.nodes.retired) (blocks_of l.leaves.retired) taken taken2 v a b;
     after = w;

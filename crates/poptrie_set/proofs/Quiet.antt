@@ -5,9 +5,9 @@ use Rattle.table_model.specs.Entries.{Entries}
 use Rattle.std.specs.List.{AllByRecursion}
 use Rattle.std.proofs.lemmas.List.{length-replicate}
 use Rattle.buddy_arena.specs.Space.{Space, IsSized, empty}
-use Rattle.block_pool.specs.Places.{is_out}
-use Rattle.block_pool.specs.Arrays.{Array, AreApart}
-use Rattle.block_pool.specs.Blocks.{Held, Retired, Gives, AreHeldIn, blocks_of, early, late, released, nothing_held}
+use Rattle.buddy_arena.specs.Places.{is_out}
+use Rattle.buddy_arena.specs.Arrays.{Array, AreApart}
+use Rattle.buddy_arena.specs.Blocks.{Held, Retired, GivesBack, AreHeldIn, blocks_of, early, late, released, nothing_held}
 use Rattle.poptrie_build.specs.Tries.{Shown, StandsFor, StandsForAnswers, rest}
 use Rattle.poptrie_build.specs.declared.node.Node.{Node}
 use Rattle.poptrie_set.specs.Rooms.{quiet_room}
@@ -17,7 +17,7 @@ use Rattle.poptrie_set.specs.Fits.{Reader, IsOldestOf, until}
 use Rattle.poptrie_set.specs.declared.trie_set.Oldest.{Oldest}
 use Rattle.poptrie_set.specs.declared.trie_set.Oldest.TheVariants as oldest
 use Rattle.poptrie_set.specs.Past.{PastIn, retired_at}
-use Rattle.poptrie_copy.specs.declared.slots.Store.{Store as Stored}
+use Rattle.path_copying.specs.declared.slots.Store.{Store as Stored}
 use Rattle.poptrie_set.proofs.Steps.{version_given}
 use Rattle.poptrie_set.proofs.Passed.{late_past}
 use Rattle.poptrie_set.proofs.Lived.{seen_as}
@@ -83,7 +83,7 @@ blocks_join [] ys = refl
 blocks_join (x ∷ xs) ys = ap (λ (r : List Array). x.block ∷ r) (blocks_join xs ys)
 
 module _ (l : Seen) (nodes : Space Node) (leaves : Space ℕ) (since : ℕ) (taken : l.nodes.taken ≡ []) (replaced : l.nodes.replaced ≡ []) (taken2 : l.leaves.taken ≡ []) (replaced2 : l.leaves.replaced ≡ []) (first : l.nodes.retired ≡ early since l.nodes.retired ++ late since l.nodes.retired) (first2 : l.leaves.retired ≡ early since l.leaves.retired ++ late since l.leaves.retired)
-    (gives : Gives (blocks_of (early since l.nodes.retired)) l.nodes.space nodes) (gives2 : Gives (blocks_of (early since l.leaves.retired)) l.leaves.space leaves) where
+    (gives : GivesBack (blocks_of (early since l.nodes.retired)) l.nodes.space nodes) (gives2 : GivesBack (blocks_of (early since l.leaves.retired)) l.leaves.space leaves) where
   given : (words : List ℕ) (E : Entries) (xs ys : List Array) → xs ≡ [] → ys ≡ [] → IsVersion l.family l.direct_bits l.nodes.space l.leaves.space words E (xs ++ blocks_of l.nodes.retired) (ys ++ blocks_of l.leaves.retired) → IsVersion l.family l.direct_bits nodes leaves words E (blocks_of (late since l.nodes.retired)) (blocks_of (late since l.leaves.retired))
   given words E xs ys ex ey v =
       let parts : xs ++ blocks_of l.nodes.retired ≡ blocks_of (early since l.nodes.retired) ++ blocks_of (late since l.nodes.retired) = ap (λ (x : List Array). x ++ blocks_of l.nodes.retired) ex ∙ (ap blocks_of first ∙ blocks_join (early since l.nodes.retired) (late since l.nodes.retired)) in

@@ -5,7 +5,7 @@ use Rattle.std.proofs.lemmas.Bool.{cases_eq, eq-eqb}
 use Rattle.std.proofs.lemmas.List.{length-take, length-drop, take-append-drop}
 use Rattle.std.proofs.Math.Nat.{mul-le-mul_left, mul-add}
 use Rattle.buddy_arena.proofs.Bits.{double}
-use Rattle.buddy_arena.specs.Space.{blocks, all_true, has_order, NoneFrom, total, shift}
+use Rattle.buddy_arena.specs.Space.{blocks, all_true, has_order, NoneFrom, free_count, shift}
 use Rattle.buddy_arena.proofs.Blocks.{has_append, has_shift}
 use Rattle.buddy_arena.proofs.Totals.{total_append, total_le}
 
@@ -14,7 +14,7 @@ unfolding blocks
 whole_has zero f e = ap (λ t. has_order 0 (cond t ((0, 0) ∷ []) [])) e
 whole_has (suc j) f e = ap (λ t. has_order (suc j) (cond t ((suc j, 0) ∷ []) (blocks j (take (2 ^ j) f) ++ map (shift (2 ^ j)) (blocks j (drop (2 ^ j) f))))) e ∙ ap (λ t. t || false) (eq-eqb (suc j) (suc j) refl)
 
-some_out : (f : List Bool) → all_true f ≡ false → total f + 1 ≤ length f
+some_out : (f : List Bool) → all_true f ≡ false → free_count f + 1 ≤ length f
 some_out [] e = cc
 some_out (true ∷ f) e = omega (arith, some_out f e)
 some_out (false ∷ f) e = omega (arith, total_le f)
@@ -48,18 +48,18 @@ doubled r a b t u v eb et l h =
     let y : r * b ≡ r * (a + a) = ap (λ n. r * n) eb in
     omega (arith, l, h, s, d, x, y, eb)
 
-pub each_range : (j k : ℕ) (f : List Bool) → length f ≡ 2 ^ j → k ≤ j → NoneFrom k (blocks j f) → 2 ^ j + 2 ^ k * total f ≤ 2 ^ k * 2 ^ j
+pub each_range : (j k : ℕ) (f : List Bool) → length f ≡ 2 ^ j → k ≤ j → NoneFrom k (blocks j f) → 2 ^ j + 2 ^ k * free_count f ≤ 2 ^ k * 2 ^ j
 each_range j k f len le none = by j f len le none (cases_eq k j)
   where
-    top : (j : ℕ) (f : List Bool) → length f ≡ 2 ^ j → k ≡ j → NoneFrom k (blocks j f) → 2 ^ j + 2 ^ k * total f ≤ 2 ^ k * 2 ^ j
+    top : (j : ℕ) (f : List Bool) → length f ≡ 2 ^ j → k ≡ j → NoneFrom k (blocks j f) → 2 ^ j + 2 ^ k * free_count f ≤ 2 ^ k * 2 ^ j
     top j f len e none =
         let out = some_out f (not_whole j f (none j (omega (arith, e)))) in
         let same : 2 ^ k ≡ 2 ^ j = ap (λ i. 2 ^ i) e in
-        let m : 2 ^ k * (total f + 1) ≤ 2 ^ k * 2 ^ j = mul-le-mul_left (2 ^ k) (omega (arith, out, len)) in
-        let s = spread (2 ^ k) (total f) 1 in
+        let m : 2 ^ k * (free_count f + 1) ≤ 2 ^ k * 2 ^ j = mul-le-mul_left (2 ^ k) (omega (arith, out, len)) in
+        let s = spread (2 ^ k) (free_count f) 1 in
         omega (arith, m, same, s)
 
-    by : (j : ℕ) (f : List Bool) → length f ≡ 2 ^ j → k ≤ j → NoneFrom k (blocks j f) → (k ≡ j) ⊎ (k ≡ j → ⊥) → 2 ^ j + 2 ^ k * total f ≤ 2 ^ k * 2 ^ j
+    by : (j : ℕ) (f : List Bool) → length f ≡ 2 ^ j → k ≤ j → NoneFrom k (blocks j f) → (k ≡ j) ⊎ (k ≡ j → ⊥) → 2 ^ j + 2 ^ k * free_count f ≤ 2 ^ k * 2 ^ j
     by j f len le none (inl e) = top j f len e none
     by zero f len le none (inr ne) = absurd (ne (omega (arith, le)))
     by (suc j) f len le none (inr ne) =
@@ -67,6 +67,6 @@ each_range j k f len le none = by j f len le none (cases_eq k j)
         let parts = parts_none j k f (not_whole (suc j) f (none (suc j) le)) none in
         let a = by j (take (2 ^ j) f) (omega (arith, length-take (2 ^ j) f, len, double j)) small parts.0 (cases_eq k j) in
         let b = by j (drop (2 ^ j) f) (omega (arith, length-drop (2 ^ j) f, len, double j)) small parts.1 (cases_eq k j) in
-        let t : total f ≡ total (take (2 ^ j) f) + total (drop (2 ^ j) f) = ap total (sym (take-append-drop (2 ^ j) f)) ∙ total_append (take (2 ^ j) f) (drop (2 ^ j) f) in
+        let t : free_count f ≡ free_count (take (2 ^ j) f) + free_count (drop (2 ^ j) f) = ap free_count (sym (take-append-drop (2 ^ j) f)) ∙ total_append (take (2 ^ j) f) (drop (2 ^ j) f) in
         let two : 2 ^ suc j ≡ 2 ^ j + 2 ^ j = omega (arith, double j) in
-        doubled (2 ^ k) (2 ^ j) (2 ^ suc j) (total f) (total (take (2 ^ j) f)) (total (drop (2 ^ j) f)) two t a b
+        doubled (2 ^ k) (2 ^ j) (2 ^ suc j) (free_count f) (free_count (take (2 ^ j) f)) (free_count (drop (2 ^ j) f)) two t a b

@@ -13,10 +13,10 @@ use Rattle.table_model.proofs.SamePrefix.{same_family_itself}
 use Rattle.table_model.specs.Entries.{Entries}
 use Rattle.buddy_arena.specs.Space.{Space}
 use Rattle.buddy_arena.specs.Space as arena
-use Rattle.block_pool.specs.Places.{is_out}
-use Rattle.block_pool.specs.Arrays.{Array, AreApart, places_of}
-use Rattle.block_pool.specs.Blocks.{Held, Retired, AreHeldIn, blocks_of, cancelled}
-use Rattle.block_pool.proofs.Sets.{places_append}
+use Rattle.buddy_arena.specs.Places.{is_out}
+use Rattle.buddy_arena.specs.Arrays.{Array, AreApart, places_of}
+use Rattle.buddy_arena.specs.Blocks.{Held, Retired, AreHeldIn, blocks_of, cancelled}
+use Rattle.buddy_arena.proofs.Sets.{places_append}
 use Rattle.fib_addr.specs.Answers.{part, all_answers}
 use Rattle.poptrie_build.specs.Build.{WordIn}
 use Rattle.poptrie_build.specs.Strides.{strides}
@@ -25,19 +25,19 @@ use Rattle.poptrie_build.specs.Need.{trie_nodes, trie_leaves}
 use Rattle.poptrie_build.specs.Tries.{rest, node_need, leaf_need}
 use Rattle.poptrie_build.specs.declared.node.Node.{Node}
 use Rattle.poptrie_build.proofs.Filled.{strides_do}
-use Rattle.poptrie_copy.specs.declared.slots.Store.{Store as Stored}
-use Rattle.poptrie_copy.specs.declared.blocks.Refusal.{Refusal}
-use Rattle.poptrie_copy.specs.Changes.{Gains}
-use Rattle.poptrie_copy.specs.Words.{IsWord, WordRow}
-use Rattle.poptrie_copy.specs.Stores.{stored, Ascends, AreStores}
-use Rattle.poptrie_copy.specs.Asks.{Ask, StandFor, Runs, IsOut}
-use Rattle.poptrie_copy.proofs.Retiring.{asks_left, slots_places}
-use Rattle.poptrie_copy.proofs.Word_row.{word_stays}
+use Rattle.path_copying.specs.declared.slots.Store.{Store as Stored}
+use Rattle.path_copying.specs.declared.blocks.Refusal.{Refusal}
+use Rattle.path_copying.specs.Changes.{Gains}
+use Rattle.path_copying.specs.Words.{IsWord, WordRow}
+use Rattle.path_copying.specs.Stores.{stored, SlotsAscend, AreStores}
+use Rattle.path_copying.specs.Asks.{Ask, StandFor, MeetsInTurn, IsOutOfBlocks}
+use Rattle.path_copying.proofs.Retiring.{asks_left, slots_places}
+use Rattle.path_copying.proofs.Word_row.{word_stays}
 use Rattle.poptrie_set.specs.Version.{IsVersion}
-use Rattle.poptrie_set.specs.Lives.{Seen, Store, ShowsIn, ShowsSome, IsLive, IsQuiet, covers, stores_of}
+use Rattle.poptrie_set.specs.Lives.{Seen, Store, ShowsIn, ShowsSome, IsLive, IsQuiet, stores_cover, stores_of}
 use Rattle.poptrie_set.specs.Fits.{Reader, FitsIn}
 use Rattle.poptrie_set.specs.Past.{PastIn, retired_at}
-use Rattle.poptrie_set.specs.Renewals.{merged, IsMerged, Renews, SetsAside, MeetsRenewal, MeetsNotRenewal, KeepsRenewal, Restores}
+use Rattle.poptrie_set.specs.Renewals.{merged, IsSpliced, Rebuilds, SetsAside, MeetsRenewal, MeetsNotRenewal, KeepsRenewal, GivesAllBack}
 use Rattle.poptrie_set.specs.Reasons.{Explains, IsReason}
 use Rattle.poptrie_set.specs.Prepares.{AgreeOutside, SameAt, AreInOrder, StoresJust, asks_of}
 use Rattle.poptrie_set.specs.declared.reasons.NotReady.{NotReady}
@@ -72,7 +72,7 @@ after : (n : ℕ) (xs : List Stored) → AllByRecursion (λ (t : Stored). n < t.
 after n [] a = tt
 after n (x ∷ xs) a = (a.0, after n xs a.1)
 
-in_order : (xs : List Stored) → Ascends xs → AreInOrder (stores_of xs)
+in_order : (xs : List Stored) → SlotsAscend xs → AreInOrder (stores_of xs)
 in_order [] a = tt
 in_order (x ∷ xs) a = (after x.slot xs a.0, in_order xs a.1)
 
@@ -101,7 +101,7 @@ begins_less s p x a n e = by (begins p (x ++ a)) refl
     by false q = q
 
 -- the second table's answers are those of a region in the slots that the prefix meets, and elsewhere those of the first
-pub agree_merged : (f : Family) (s : ℕ) (p : Prefix) (F : List Bool → ℕ) (L M : Entries) → p.family ≡ f → s ≤ 18 → F ≡ all_answers f M → AgreeOutside p L M → IsMerged p.bits s (rest f s) F (λ u. part (bits_of s u) (all_answers f L)) (all_answers f M)
+pub agree_merged : (f : Family) (s : ℕ) (p : Prefix) (F : List Bool → ℕ) (L M : Entries) → p.family ≡ f → s ≤ 18 → F ≡ all_answers f M → AgreeOutside p L M → IsSpliced p.bits s (rest f s) F (λ u. part (bits_of s u) (all_answers f L)) (all_answers f M)
 agree_merged f s p F L M e few is agree u l a n = by (begins (take s p.bits) (bits_of s u)) refl
   where
     long : length (bits_of s u ++ a) ≡ width f
@@ -127,7 +127,7 @@ words_stand_for f s nodes leaves direct L x y ver v l =
 -- what became of the words in a renewal
 pub record Renewed (nodes nodes2 : Space Node) (nb nb2 : Held) (leaves leaves2 : Space ℕ) (lb lb2 : Held) (words : List ℕ) (made : List Stored) (bits : List Bool) (s d : ℕ) (f : List Bool → ℕ) : Type 0 where
   pub stores : AreStores words made (2 ^ s)
-  pub renews : Renews nodes nb leaves lb (stored [] words) nodes2 nb2 leaves2 lb2 (stored made words) bits s d f
+  pub rebuilds : Rebuilds nodes nb leaves lb (stored [] words) nodes2 nb2 leaves2 lb2 (stored made words) bits s d f
   pub aside : SetsAside nodes nb leaves lb (stored [] words) nodes2 nb2 leaves2 lb2 s d
   pub kept : KeepsRenewal nodes leaves words made bits s d f
   pub met : MeetsRenewal nodes leaves words nodes2 leaves2 bits s d f
@@ -171,15 +171,15 @@ module _ (f : Family) (s : ℕ) (words : List ℕ) (nodes nodes2 : Space Node) (
             subst (λ (z : List Retired). AreApart (is_out leaves2.free) (lb2.replaced ++ blocks_of z)) (sym gl.retired) both.1,
           )
 
-      module _ (F : List Bool → ℕ) (bits : List Bool) (L M : Entries) (sh : ShowsIn l L L) (merges : IsMerged bits s (rest f s) F (λ u. part (bits_of s u) (all_answers f L)) (all_answers f M)) (met : MeetsRenewal nodes leaves words nodes2 leaves2 bits s d F) where
-        pub ready_asks : Runs nodes.order leaves.order (asks_of f s L M) (nodes.free, leaves.free) (nodes2.free, leaves2.free)
+      module _ (F : List Bool → ℕ) (bits : List Bool) (L M : Entries) (sh : ShowsIn l L L) (merges : IsSpliced bits s (rest f s) F (λ u. part (bits_of s u) (all_answers f L)) (all_answers f M)) (met : MeetsRenewal nodes leaves words nodes2 leaves2 bits s d F) where
+        pub ready_asks : MeetsInTurn nodes.order leaves.order (asks_of f s L M) (nodes.free, leaves.free) (nodes2.free, leaves2.free)
         ready_asks =
             let m : MeetsRenewal nodes leaves words nodes2 leaves2 bits s (rest f s) F = subst (λ (n : ℕ). MeetsRenewal nodes leaves words nodes2 leaves2 bits s n F) ed met in
             m (strides (rest f s)) (λ u. part (bits_of s u) (all_answers f L)) (all_answers f M) (omega (arith, strides_do (rest f s))) merges (words_stand_for f s nodes leaves words L (blocks_of nb.retired) (blocks_of lb.retired) (quiet L L sh))
 
-        pub ready_shows : AreStores words stores (2 ^ s) → Renews nodes nb leaves lb (stored [] words) nodes2 nb2 leaves2 lb2 (stored stores words) bits s d F → ShowsIn ready L M
+        pub ready_shows : AreStores words stores (2 ^ s) → Rebuilds nodes nb leaves lb (stored [] words) nodes2 nb2 leaves2 lb2 (stored stores words) bits s d F → ShowsIn ready L M
         ready_shows are re0 =
-            let re : Renews nodes nb leaves lb (stored [] words) nodes2 nb2 leaves2 lb2 (stored stores words) bits s (rest f s) F = subst (λ (n : ℕ). Renews nodes nb leaves lb (stored [] words) nodes2 nb2 leaves2 lb2 (stored stores words) bits s n F) ed re0 in
+            let re : Rebuilds nodes nb leaves lb (stored [] words) nodes2 nb2 leaves2 lb2 (stored stores words) bits s (rest f s) F = subst (λ (n : ℕ). Rebuilds nodes nb leaves lb (stored [] words) nodes2 nb2 leaves2 lb2 (stored stores words) bits s n F) ed re0 in
             let v = quiet L L sh in
             let w = copied_version f s nodes nodes2 nb nb2 leaves leaves2 lb lb2 words stores L M (blocks_of nb.retired) (blocks_of lb.retired) v gn gl q.nodes_replaced q.leaves_replaced bits F merges re in
             let left = asks_left nodes.order leaves.order (asks_of f s L M) (nodes.free, leaves.free) (nodes2.free, leaves2.free) ready_asks in
@@ -193,15 +193,15 @@ module _ (f : Family) (s : ℕ) (words : List ℕ) (nodes nodes2 : Space Node) (
               copied_shows l nodes2 leaves2 nb nb2 lb lb2 stores L M v q.nodes_taken q.leaves_taken q.nodes_replaced q.leaves_replaced gn gl bits F merges re are few few2,
             )
 
-        ready_just : s ≤ 18 → AreStores words stores (2 ^ s) → Renews nodes nb leaves lb (stored [] words) nodes2 nb2 leaves2 lb2 (stored stores words) bits s d F → KeepsRenewal nodes leaves words stores bits s d F → (v : ℕ) → v < 2 ^ s → (covers (stores_of stores) v ≡ false) ↔ SameAt f s L M v
+        ready_just : s ≤ 18 → AreStores words stores (2 ^ s) → Rebuilds nodes nb leaves lb (stored [] words) nodes2 nb2 leaves2 lb2 (stored stores words) bits s d F → KeepsRenewal nodes leaves words stores bits s d F → (v : ℕ) → v < 2 ^ s → (stores_cover (stores_of stores) v ≡ false) ↔ SameAt f s L M v
         ready_just few are re0 kept0 v low = (from_word, to_word)
           where
             ver : IsVersion f s nodes leaves words L (blocks_of nb.retired) (blocks_of lb.retired)
             ver = quiet L L sh
 
-            from_word : covers (stores_of stores) v ≡ false → SameAt f s L M v
+            from_word : stores_cover (stores_of stores) v ≡ false → SameAt f s L M v
             from_word c =
-                let re : Renews nodes nb leaves lb (stored [] words) nodes2 nb2 leaves2 lb2 (stored stores words) bits s (rest f s) F = subst (λ (n : ℕ). Renews nodes nb leaves lb (stored [] words) nodes2 nb2 leaves2 lb2 (stored stores words) bits s n F) ed re0 in
+                let re : Rebuilds nodes nb leaves lb (stored [] words) nodes2 nb2 leaves2 lb2 (stored stores words) bits s (rest f s) F = subst (λ (n : ℕ). Rebuilds nodes nb leaves lb (stored [] words) nodes2 nb2 leaves2 lb2 (stored stores words) bits s n F) ed re0 in
                 let row = version_row f s nodes leaves words L (blocks_of nb.retired) (blocks_of lb.retired) ver (strides (rest f s)) (omega arith) in
                 let row2 = subst (λ (z : List Array). WordRow (strides (rest f s)) (2 ^ s) nodes leaves (stored [] words) (rest f s) (λ u. part (bits_of s u) (all_answers f L)) (z ++ blocks_of nb.retired) (lb.replaced ++ blocks_of lb.retired) (2 ^ nodes.order) (2 ^ leaves.order)) (sym q.nodes_replaced)
                 (subst (λ (z : List Array). WordRow (strides (rest f s)) (2 ^ s) nodes leaves (stored [] words) (rest f s) (λ u. part (bits_of s u) (all_answers f L)) (blocks_of nb.retired) (z ++ blocks_of lb.retired) (2 ^ nodes.order) (2 ^ leaves.order)) (sym q.leaves_replaced) row) in
@@ -210,17 +210,17 @@ module _ (f : Family) (s : ℕ) (words : List ℕ) (nodes nodes2 : Space Node) (
                 let new2 = subst (λ (w : ℕ). WordIn w (strides (rest f s)) nodes2.cells (is_out nodes2.free) leaves2.cells (is_out leaves2.free) (rest f s) (part (bits_of s v) (all_answers f M))) (not_covered stores words v c) new in
                 alike_same_at f s L M v (wide f s few) (word_one (strides (rest f s)) nodes2.cells (is_out nodes2.free) leaves2.cells (is_out leaves2.free) (slice_index words v) (rest f s) (part (bits_of s v) (all_answers f M)) (part (bits_of s v) (all_answers f L)) new2 old)
 
-            to_word : SameAt f s L M v → covers (stores_of stores) v ≡ false
+            to_word : SameAt f s L M v → stores_cover (stores_of stores) v ≡ false
             to_word same =
                 let kept : KeepsRenewal nodes leaves words stores bits s (rest f s) F = subst (λ (n : ℕ). KeepsRenewal nodes leaves words stores bits s n F) ed kept0 in
                 stored_there stores words (2 ^ s) v are
                 (kept (strides (rest f s)) (λ u. part (bits_of s u) (all_answers f L)) (all_answers f M) merges (words_stand_for f s nodes leaves words L (blocks_of nb.retired) (blocks_of lb.retired) (quiet L L sh)) v low (same_alike f s L M v (wide f s few) same))
 
-        pub ready_changes : s ≤ 18 → AreStores words stores (2 ^ s) → Renews nodes nb leaves lb (stored [] words) nodes2 nb2 leaves2 lb2 (stored stores words) bits s d F → KeepsRenewal nodes leaves words stores bits s d F → StoresJust f s L M (stores_of stores)
+        pub ready_changes : s ≤ 18 → AreStores words stores (2 ^ s) → Rebuilds nodes nb leaves lb (stored [] words) nodes2 nb2 leaves2 lb2 (stored stores words) bits s d F → KeepsRenewal nodes leaves words stores bits s d F → StoresJust f s L M (stores_of stores)
         ready_changes few are re kept = record { in_order = in_order stores are.in_order; just = ready_just few are re kept }
 
       -- whatever the region's answers are, the new version's are those of some table
-      pub ready_some : (F : List Bool → ℕ) (bits : List Bool) (L : Entries) → s ≤ 18 → ShowsIn l L L → MeetsRenewal nodes leaves words nodes2 leaves2 bits s d F → AreStores words stores (2 ^ s) → Renews nodes nb leaves lb (stored [] words) nodes2 nb2 leaves2 lb2 (stored stores words) bits s d F → ShowsSome ready
+      pub ready_some : (F : List Bool → ℕ) (bits : List Bool) (L : Entries) → s ≤ 18 → ShowsIn l L L → MeetsRenewal nodes leaves words nodes2 leaves2 bits s d F → AreStores words stores (2 ^ s) → Rebuilds nodes nb leaves lb (stored [] words) nodes2 nb2 leaves2 lb2 (stored stores words) bits s d F → ShowsSome ready
       ready_some F bits L few sh met are re =
           let h : ℕ → List Bool → ℕ = merged bits s F (λ u. part (bits_of s u) (all_answers f L)) in
           record { before = L; after = slots_table f s h; shows = ready_shows F bits L (slots_table f s h) sh (λ u low. slots_answers f s h u (wide f s few) low) met are re }
@@ -241,14 +241,14 @@ module _ (f : Family) (s : ℕ) (words : List ℕ) (nodes nodes2 : Space Node) (
     }
 
 -- ---- refused
-grows_none : {T : Type 0} (e : T) (s t : Space T) → Restores e s t → Grows e s t []
+grows_none : {T : Type 0} (e : T) (s t : Space T) → GivesAllBack e s t → Grows e s t []
 unfolding AreApart
-grows_none e s t r = record { keeps = r.keeps; order = r.order; apart = tt; left = omega (arith, ap arena.total r.free) }
+grows_none e s t r = record { keeps = r.keeps; order = r.order; apart = tt; left = omega (arith, ap arena.free_count r.free) }
 
-version_restored : (f : Family) (s : ℕ) (nodes nodes2 : Space Node) (leaves leaves2 : Space ℕ) (words : List ℕ) (L : Entries) (x y : List Array) → Restores blank nodes nodes2 → Restores 0 leaves leaves2 → IsVersion f s nodes leaves words L x y → IsVersion f s nodes2 leaves2 words L x y
+version_restored : (f : Family) (s : ℕ) (nodes nodes2 : Space Node) (leaves leaves2 : Space ℕ) (words : List ℕ) (L : Entries) (x y : List Array) → GivesAllBack blank nodes nodes2 → GivesAllBack 0 leaves leaves2 → IsVersion f s nodes leaves words L x y → IsVersion f s nodes2 leaves2 words L x y
 version_restored f s nodes nodes2 leaves leaves2 words L x y a b v = version_grown f s nodes nodes2 leaves leaves2 words L x y [] [] v (grows_none blank nodes nodes2 a) (grows_none 0 leaves leaves2 b)
 
-module _ (f : Family) (s : ℕ) (words : List ℕ) (nodes nodes2 : Space Node) (leaves leaves2 : Space ℕ) (nb nb2 lb lb2 : Held) (p : Bool) (none stores : List Stored) (made : ℕ) (rn : Restores blank nodes nodes2) (rl : Restores 0 leaves leaves2) (en : nb2 ≡ nb) (el : lb2 ≡ lb) (es : stores ≡ none) where
+module _ (f : Family) (s : ℕ) (words : List ℕ) (nodes nodes2 : Space Node) (leaves leaves2 : Space ℕ) (nb nb2 lb lb2 : Held) (p : Bool) (none stores : List Stored) (made : ℕ) (rn : GivesAllBack blank nodes nodes2) (rl : GivesAllBack 0 leaves leaves2) (en : nb2 ≡ nb) (el : lb2 ≡ lb) (es : stores ≡ none) where
   pub back_is : seen_as f s words nodes2 leaves2 nb2 lb2 p stores made ≡ seen_as f s words nodes2 leaves2 nb lb p none made
   back_is =
       ap (λ (h : Held). seen_as f s words nodes2 leaves2 h lb2 p stores made) en
@@ -309,11 +309,11 @@ module _ (f : Family) (s : ℕ) (words : List ℕ) (nodes nodes2 : Space Node) (
       })))
 
 -- ---- why
-pub reason_is : (e : NotReady) (r : Refusal) (asks : List Ask) (s : Space Node) (t : Space ℕ) (n l : ℕ) → Explains e r n l (2 ^ s.order) (2 ^ t.order) → IsOut s.order t.order asks (s.free, t.free) r → IsReason e asks s t n l
+pub reason_is : (e : NotReady) (r : Refusal) (asks : List Ask) (s : Space Node) (t : Space ℕ) (n l : ℕ) → Explains e r n l (2 ^ s.order) (2 ^ t.order) → IsOutOfBlocks s.order t.order asks (s.free, t.free) r → IsReason e asks s t n l
 reason_is why.Memory r asks s t n l x o = tt
 reason_is (why.TooMuch f) r asks s t n l x o = x
-reason_is (why.NodesOut f) r asks s t n l x o = (x.1, x.2, subst (λ (z : Refusal). IsOut s.order t.order asks (s.free, t.free) z) x.0 o)
-reason_is (why.LeavesOut f) r asks s t n l x o = (x.1, x.2, subst (λ (z : Refusal). IsOut s.order t.order asks (s.free, t.free) z) x.0 o)
+reason_is (why.NodesOut f) r asks s t n l x o = (x.1, x.2, subst (λ (z : Refusal). IsOutOfBlocks s.order t.order asks (s.free, t.free) z) x.0 o)
+reason_is (why.LeavesOut f) r asks s t n l x o = (x.1, x.2, subst (λ (z : Refusal). IsOutOfBlocks s.order t.order asks (s.free, t.free) z) x.0 o)
 
 -- nothing is pending, and no block is held but the retired ones
 pub quiet_held : (stores : List Stored) (made : ℕ) (a b : Held) → IsQuiet stores made a b → (a ≡ cancelled a) × (b ≡ cancelled b)
@@ -342,7 +342,7 @@ err_both (Ok x) P Q a p f = tt
 err_both (Err e) P Q a p f = f e a p
 
 -- the reason of a refused renewal
-pub refused_reason : (f : Family) (s : ℕ) (words : List ℕ) (nodes : Space Node) (leaves : Space ℕ) (L M : Entries) (x y : List Array) (d o p : ℕ) (F : List Bool → ℕ) (bits : List Bool) (e : NotReady) (r : Refusal) → IsVersion f s nodes leaves words L x y → d ≡ rest f s → F ≡ all_answers f M → IsMerged bits s (rest f s) F (λ u. part (bits_of s u) (all_answers f L)) (all_answers f M) → o ≡ nodes.order → p ≡ leaves.order →
+pub refused_reason : (f : Family) (s : ℕ) (words : List ℕ) (nodes : Space Node) (leaves : Space ℕ) (L M : Entries) (x y : List Array) (d o p : ℕ) (F : List Bool → ℕ) (bits : List Bool) (e : NotReady) (r : Refusal) → IsVersion f s nodes leaves words L x y → d ≡ rest f s → F ≡ all_answers f M → IsSpliced bits s (rest f s) F (λ u. part (bits_of s u) (all_answers f L)) (all_answers f M) → o ≡ nodes.order → p ≡ leaves.order →
     ((k : ℕ) → d ≤ 6 * k → Explains e r (trie_nodes s k d F) (trie_leaves s k d F) (2 ^ o) (2 ^ p)) → MeetsNotRenewal nodes leaves words bits s d F r → IsReason e (asks_of f s L M) nodes leaves (node_need f s M) (leaf_need f s M)
 refused_reason f s words nodes leaves L M x y d o p F bits e r ver ed eF merges eo ep ex out0 =
     let k = strides (rest f s) in

@@ -11,23 +11,23 @@ use Rattle.table_model.proofs.Region.{begins_append}
 use Rattle.table_model.proofs.BitLaws.{length-bits_of, bits_take, bits_split, bits_low, same_from_bits}
 use Rattle.buddy_arena.specs.Space.{Space}
 use Rattle.buddy_arena.proofs.Counts.{mul_mono}
-use Rattle.block_pool.specs.Places.{is_out}
-use Rattle.block_pool.specs.Arrays.{Array}
-use Rattle.block_pool.specs.Blocks.{Held}
-use Rattle.block_pool.proofs.Parting.{part_right}
+use Rattle.buddy_arena.specs.Places.{is_out}
+use Rattle.buddy_arena.specs.Arrays.{Array}
+use Rattle.buddy_arena.specs.Blocks.{Held}
+use Rattle.buddy_arena.proofs.Parting.{part_right}
 use Rattle.fib_addr.specs.Answers.{part}
 use Rattle.poptrie_build.specs.Build.{WordIn}
 use Rattle.poptrie_build.specs.Arrays.{gather}
 use Rattle.poptrie_build.specs.declared.node.Node.{Node}
-use Rattle.poptrie_copy.specs.Alike.{Alike}
-use Rattle.poptrie_copy.specs.Words.{WordRow, arrays_of, leaf_arrays_of}
-use Rattle.poptrie_copy.specs.declared.slots.Store.{Store}
-use Rattle.poptrie_copy.specs.Stores.{stored, under, AreStores, KeepsSlots, ReplacesWords}
-use Rattle.poptrie_copy.specs.Asks.{Ask, slots_asks, StandFor, Runs, IsOut, MeetsSlots, MeetsNotSlots}
-use Rattle.poptrie_copy.specs.declared.blocks.Refusal.{Refusal}
-use Rattle.poptrie_copy.proofs.Alike_row.{IsPartOf, part_under, part_asks, row_alike}
-use Rattle.poptrie_copy.proofs.Slot_copy.{stored_beyond}
-use Rattle.poptrie_set.specs.Renewals.{IsMerged, Renews, SetsAside, MeetsRenewal, MeetsNotRenewal, KeepsRenewal}
+use Rattle.path_copying.specs.Alike.{SameAnswers}
+use Rattle.path_copying.specs.Words.{WordRow, arrays_of_word, leaf_arrays_of}
+use Rattle.path_copying.specs.declared.slots.Store.{Store}
+use Rattle.path_copying.specs.Stores.{stored, slots_under, AreStores, KeepsSlots, ReplacesWords}
+use Rattle.path_copying.specs.Asks.{Ask, slots_asks, StandFor, MeetsInTurn, IsOutOfBlocks, MeetsSlots, MeetsNotSlots}
+use Rattle.path_copying.specs.declared.blocks.Refusal.{Refusal}
+use Rattle.path_copying.proofs.Alike_row.{IsPartOf, part_under, part_asks, row_alike}
+use Rattle.path_copying.proofs.Slot_copy.{stored_beyond}
+use Rattle.poptrie_set.specs.Renewals.{IsSpliced, Rebuilds, SetsAside, MeetsRenewal, MeetsNotRenewal, KeepsRenewal}
 
 -- ---- the slots of a prefix
 begins_take : (p q : List Bool) (t : ℕ) → begins p q ≡ true → t ≤ length p → take t p ≡ take t q
@@ -45,20 +45,20 @@ not_begins true h = absurd (h refl)
 not_begins false h = refl
 
 -- the answers of a slot, by whether an address of it begins with the prefix
-module _ (p : List Bool) (s d : ℕ) (f : List Bool → ℕ) (h : ℕ → List Bool → ℕ) (g : List Bool → ℕ) (m : IsMerged p s d f h g) (u : ℕ) (l : u < 2 ^ s) where
-  merged_in : begins (take s p) (bits_of s u) ≡ true → Alike d (part (bits_of s u) g) (part (bits_of s u) f)
-  merged_in e = subst (λ (b : Bool). Alike d (part (bits_of s u) g) (cond b (part (bits_of s u) f) (h u))) e (m u l)
+module _ (p : List Bool) (s d : ℕ) (f : List Bool → ℕ) (h : ℕ → List Bool → ℕ) (g : List Bool → ℕ) (m : IsSpliced p s d f h g) (u : ℕ) (l : u < 2 ^ s) where
+  merged_in : begins (take s p) (bits_of s u) ≡ true → SameAnswers d (part (bits_of s u) g) (part (bits_of s u) f)
+  merged_in e = subst (λ (b : Bool). SameAnswers d (part (bits_of s u) g) (cond b (part (bits_of s u) f) (h u))) e (m u l)
 
-  merged_out : begins (take s p) (bits_of s u) ≡ false → Alike d (part (bits_of s u) g) (h u)
-  merged_out e = subst (λ (b : Bool). Alike d (part (bits_of s u) g) (cond b (part (bits_of s u) f) (h u))) e (m u l)
+  merged_out : begins (take s p) (bits_of s u) ≡ false → SameAnswers d (part (bits_of s u) g) (h u)
+  merged_out e = subst (λ (b : Bool). SameAnswers d (part (bits_of s u) g) (cond b (part (bits_of s u) f) (h u))) e (m u l)
 
 -- all of them
-pub whole_part : (p : List Bool) (s d : ℕ) (f : List Bool → ℕ) (h : ℕ → List Bool → ℕ) (g : List Bool → ℕ) → take s p ≡ [] → IsMerged p s d f h g → IsPartOf s s 0 d g f h
+pub whole_part : (p : List Bool) (s d : ℕ) (f : List Bool → ℕ) (h : ℕ → List Bool → ℕ) (g : List Bool → ℕ) → take s p ≡ [] → IsSpliced p s d f h g → IsPartOf s s 0 d g f h
 whole_part p s d f h g short m = record {
   many = omega arith;
   inside = λ v l.
       let z : 0 + v ≡ v = omega arith in
-      subst (λ (i : ℕ). Alike d (part (bits_of s i) g) (part (bits_of s v) f)) (sym z) (merged_in p s d f h g m v l (ap (λ (x : List Bool). begins x (bits_of s v)) short));
+      subst (λ (i : ℕ). SameAnswers d (part (bits_of s i) g) (part (bits_of s v) f)) (sym z) (merged_in p s d f h g m v l (ap (λ (x : List Bool). begins x (bits_of s v)) short));
   beside = λ u l o a n. absurd (none u l o);
 }
   where
@@ -104,7 +104,7 @@ module _ (s t j number first d : ℕ) (f : List Bool → ℕ) (p : List Bool) (h
       by (inl c) x y = omega (arith, c, x)
       by (inr c) x y = omega (arith, c, y)
 
-  pub prefix_part : (g : List Bool → ℕ) → IsMerged p s d f h g → IsPartOf s j first d g (part (bits_of t number) f) h
+  pub prefix_part : (g : List Bool → ℕ) → IsSpliced p s d f h g → IsPartOf s j first d g (part (bits_of t number) f) h
   prefix_part g m = record {
     many = within;
     inside = λ v l a n. merged_in p s d f h g m (first + v) (omega (arith, l, within)) (begun v l) a n ∙ (ap (λ (x : List Bool). f (x ++ a)) (slot_bits v l) ∙ ap f (append_assoc (bits_of t number) (bits_of j v) a));
@@ -118,22 +118,22 @@ module _ (s t j number first d : ℕ) (f : List Bool → ℕ) (p : List Bool) (h
       begun v l = ap (λ (x : List Bool). begins x (bits_of s (first + v))) front ∙ (ap (begins (bits_of t number)) (slot_bits v l) ∙ begins_append (bits_of t number) (bits_of j v))
 
 -- ---- what becomes of all words
-module _ (nodes nodes2 : Space Node) (nb nb2 : Held) (leaves leaves2 : Space ℕ) (lb lb2 : Held) (s j first d e : ℕ) (f g : List Bool → ℕ) (p : List Bool) (many : first + 2 ^ j ≤ 2 ^ s) (is : (h : ℕ → List Bool → ℕ) (q : List Bool → ℕ) → IsMerged p s d f h q → IsPartOf s j first d q g h) (same : e ≡ d) where
+module _ (nodes nodes2 : Space Node) (nb nb2 : Held) (leaves leaves2 : Space ℕ) (lb lb2 : Held) (s j first d e : ℕ) (f g : List Bool → ℕ) (p : List Bool) (many : first + 2 ^ j ≤ 2 ^ s) (is : (h : ℕ → List Bool → ℕ) (q : List Bool → ℕ) → IsSpliced p s d f h q → IsPartOf s j first d q g h) (same : e ≡ d) where
   module _ (words words2 : ℕ → ℕ) (re : ReplacesWords nodes nb leaves lb words nodes2 nb2 leaves2 lb2 words2 first j e g) where
-    row : (k : ℕ) (h : ℕ → List Bool → ℕ) (x y : List Array) (m m2 : ℕ) → d ≤ 6 * k → WordRow k (2 ^ s) nodes leaves words d h (nb.replaced ++ x) (lb.replaced ++ y) m m2 → WordRow k (2 ^ s) nodes2 leaves2 words2 d (under first j g h) (nb2.replaced ++ x) (lb2.replaced ++ y) m m2
+    row : (k : ℕ) (h : ℕ → List Bool → ℕ) (x y : List Array) (m m2 : ℕ) → d ≤ 6 * k → WordRow k (2 ^ s) nodes leaves words d h (nb.replaced ++ x) (lb.replaced ++ y) m m2 → WordRow k (2 ^ s) nodes2 leaves2 words2 d (slots_under first j g h) (nb2.replaced ++ x) (lb2.replaced ++ y) m m2
     row k h x y m m2 few r =
-        subst (λ (n : ℕ). WordRow k (2 ^ s) nodes2 leaves2 words2 n (under first j g h) (nb2.replaced ++ x) (lb2.replaced ++ y) m m2) same
+        subst (λ (n : ℕ). WordRow k (2 ^ s) nodes2 leaves2 words2 n (slots_under first j g h) (nb2.replaced ++ x) (lb2.replaced ++ y) m m2) same
         (re k (2 ^ s) h x y m m2 many (omega (arith, few, same)) (subst (λ (n : ℕ). WordRow k (2 ^ s) nodes leaves words n h (nb.replaced ++ x) (lb.replaced ++ y) m m2) (sym same) r))
 
-    pub part_renews : Renews nodes nb leaves lb words nodes2 nb2 leaves2 lb2 words2 p s d f
-    part_renews k h q x y m m2 few merges r =
-        row_alike k (2 ^ s) d nodes2 leaves2 words2 (under first j g h) (λ u. part (bits_of s u) q) (nb2.replaced ++ x) (lb2.replaced ++ y) m m2 (part_under s j first d q g h (is h q merges))
+    pub part_rebuilds : Rebuilds nodes nb leaves lb words nodes2 nb2 leaves2 lb2 words2 p s d f
+    part_rebuilds k h q x y m m2 few merges r =
+        row_alike k (2 ^ s) d nodes2 leaves2 words2 (slots_under first j g h) (λ u. part (bits_of s u) q) (nb2.replaced ++ x) (lb2.replaced ++ y) m m2 (part_under s j first d q g h (is h q merges))
         (row k h x y m m2 few r)
 
     pub part_aside : SetsAside nodes nb leaves lb words nodes2 nb2 leaves2 lb2 s d
     part_aside k h x y m m2 few r =
         let q = row k h x y m m2 few r in (
-          part_right (is_out nodes2.free) (gather (λ u. arrays_of k nodes2.cells (words2 u)) (2 ^ s)) (nb2.replaced ++ x) q.nodes_apart,
+          part_right (is_out nodes2.free) (gather (λ u. arrays_of_word k nodes2.cells (words2 u)) (2 ^ s)) (nb2.replaced ++ x) q.nodes_apart,
           part_right (is_out leaves2.free) (gather (λ u. leaf_arrays_of k nodes2.cells (words2 u)) (2 ^ s)) (lb2.replaced ++ y) q.leaves_apart,
         )
 
@@ -144,14 +144,14 @@ module _ (nodes nodes2 : Space Node) (nb nb2 : Held) (leaves leaves2 : Space ℕ
         subst (λ (n : ℕ). WordIn (slice_index words (first + v)) k nodes.cells (is_out nodes.free) leaves.cells (is_out leaves.free) n (h (first + v))) (sym same)
         (subst (λ (n : ℕ). WordIn (slice_index words n) k nodes.cells (is_out nodes.free) leaves.cells (is_out leaves.free) d (h (first + v))) at (w (first + v) (omega (arith, l, many))))
 
-    asked : (k : ℕ) (h : ℕ → List Bool → ℕ) (q : List Bool → ℕ) → IsMerged p s d f h q → slots_asks k j e g (λ v. h (first + v)) ≡ slots_asks k s d q h
+    asked : (k : ℕ) (h : ℕ → List Bool → ℕ) (q : List Bool → ℕ) → IsSpliced p s d f h q → slots_asks k j e g (λ v. h (first + v)) ≡ slots_asks k s d q h
     asked k h q merges = ap (λ n. slots_asks k j n g (λ v. h (first + v))) same ∙ sym (part_asks s j first d q g h (is h q merges) k)
 
     pub part_met : MeetsSlots nodes leaves words nodes2 leaves2 first j e g → MeetsRenewal nodes leaves words nodes2 leaves2 p s d f
-    part_met met k h q few merges w = subst (λ (x : List Ask). Runs nodes.order leaves.order x (nodes.free, leaves.free) (nodes2.free, leaves2.free)) (asked k h q merges) (met k (λ v. h (first + v)) (omega (arith, few, same)) (stand k h w))
+    part_met met k h q few merges w = subst (λ (x : List Ask). MeetsInTurn nodes.order leaves.order x (nodes.free, leaves.free) (nodes2.free, leaves2.free)) (asked k h q merges) (met k (λ v. h (first + v)) (omega (arith, few, same)) (stand k h w))
 
     pub part_refused : (r : Refusal) → MeetsNotSlots nodes leaves words first j e g r → MeetsNotRenewal nodes leaves words p s d f r
-    part_refused r out k h q few merges w = subst (λ (x : List Ask). IsOut nodes.order leaves.order x (nodes.free, leaves.free) r) (asked k h q merges) (out k (λ v. h (first + v)) (omega (arith, few, same)) (stand k h w))
+    part_refused r out k h q few merges w = subst (λ (x : List Ask). IsOutOfBlocks nodes.order leaves.order x (nodes.free, leaves.free) r) (asked k h q merges) (out k (λ v. h (first + v)) (omega (arith, few, same)) (stand k h w))
 
   module _ (words : List ℕ) (stores : List Store) where
     pub part_kept : KeepsSlots nodes leaves words [] stores first j e g → AreStores words stores (first + 2 ^ j) → KeepsRenewal nodes leaves words stores p s d f
@@ -159,7 +159,7 @@ module _ (nodes nodes2 : Space Node) (nb nb2 : Held) (leaves leaves2 : Space ℕ
       where
         inside : (v : ℕ) → v < 2 ^ j → first + v ≡ u → stored stores words u ≡ slice_index words u
         inside v low at =
-            let same_part : Alike e (part (bits_of j v) g) (h u) = λ a n. sym ((is h q merges).inside v low a (n ∙ same)) ∙ (ap (λ i. part (bits_of s i) q a) at ∙ al a (n ∙ same)) in
+            let same_part : SameAnswers e (part (bits_of j v) g) (h u) = λ a n. sym ((is h q merges).inside v low a (n ∙ same)) ∙ (ap (λ i. part (bits_of s i) q a) at ∙ al a (n ∙ same)) in
             let zero_first : 0 + u ≡ first + v = omega (arith, at) in
             let stands = subst (λ (n : ℕ). WordIn (slice_index words (first + v)) k nodes.cells (is_out nodes.free) leaves.cells (is_out leaves.free) n (h u)) (sym same)
             (subst (λ (n : ℕ). WordIn (slice_index words n) k nodes.cells (is_out nodes.free) leaves.cells (is_out leaves.free) d (h u)) zero_first (w u l)) in
@@ -228,16 +228,16 @@ module _ (w len s t n number j first d : ℕ) (short : t ≤ len) (within : len 
       let wide : 2 ^ s ≡ 2 ^ t * 2 ^ j = ap (λ (k : ℕ). 2 ^ k) (sym sum) ∙ pow-add 2 t j in
       omega (arith, m, wide, at)
 
-  pub number_part : (f g : List Bool → ℕ) (h : ℕ → List Bool → ℕ) (q : List Bool → ℕ) → (t < s → t ≡ len) → first ≡ number * 2 ^ j → g ≡ part (bits_of t number) f → IsMerged (take len (bits_of w n)) s d f h q → IsPartOf s j first d q g h
+  pub number_part : (f g : List Bool → ℕ) (h : ℕ → List Bool → ℕ) (q : List Bool → ℕ) → (t < s → t ≡ len) → first ≡ number * 2 ^ j → g ≡ part (bits_of t number) f → IsSpliced (take len (bits_of w n)) s d f h q → IsPartOf s j first d q g h
   number_part f g h q least at eg merges =
       let front : take s (take len (bits_of w n)) ≡ bits_of t number = cut_front w len s t n short few least ∙ (front_bits w len t n short within ∙ ap (bits_of t) (sym is)) in
       subst (λ (x : List Bool → ℕ). IsPartOf s j first d q x h) (sym eg)
       (prefix_part s t j number first d f (take len (bits_of w n)) h (omega (arith, left, few)) small at front q merges)
 
 -- ---- the same, of a list of stores that was empty
-module _ (nodes nodes2 : Space Node) (nb nb2 : Held) (leaves leaves2 : Space ℕ) (lb lb2 : Held) (s j first d e : ℕ) (f g : List Bool → ℕ) (p : List Bool) (many : first + 2 ^ j ≤ 2 ^ s) (is : (h : ℕ → List Bool → ℕ) (q : List Bool → ℕ) → IsMerged p s d f h q → IsPartOf s j first d q g h) (same : e ≡ d) (words : List ℕ) (before stores : List Store) (none : before ≡ []) where
-  pub all_renews : ReplacesWords nodes nb leaves lb (stored before words) nodes2 nb2 leaves2 lb2 (stored stores words) first j e g → Renews nodes nb leaves lb (stored [] words) nodes2 nb2 leaves2 lb2 (stored stores words) p s d f
-  all_renews re = part_renews nodes nodes2 nb nb2 leaves leaves2 lb lb2 s j first d e f g p many is same (stored [] words) (stored stores words) (subst (λ (x : List Store). ReplacesWords nodes nb leaves lb (stored x words) nodes2 nb2 leaves2 lb2 (stored stores words) first j e g) none re)
+module _ (nodes nodes2 : Space Node) (nb nb2 : Held) (leaves leaves2 : Space ℕ) (lb lb2 : Held) (s j first d e : ℕ) (f g : List Bool → ℕ) (p : List Bool) (many : first + 2 ^ j ≤ 2 ^ s) (is : (h : ℕ → List Bool → ℕ) (q : List Bool → ℕ) → IsSpliced p s d f h q → IsPartOf s j first d q g h) (same : e ≡ d) (words : List ℕ) (before stores : List Store) (none : before ≡ []) where
+  pub all_rebuilds : ReplacesWords nodes nb leaves lb (stored before words) nodes2 nb2 leaves2 lb2 (stored stores words) first j e g → Rebuilds nodes nb leaves lb (stored [] words) nodes2 nb2 leaves2 lb2 (stored stores words) p s d f
+  all_rebuilds re = part_rebuilds nodes nodes2 nb nb2 leaves leaves2 lb lb2 s j first d e f g p many is same (stored [] words) (stored stores words) (subst (λ (x : List Store). ReplacesWords nodes nb leaves lb (stored x words) nodes2 nb2 leaves2 lb2 (stored stores words) first j e g) none re)
 
   pub all_aside : ReplacesWords nodes nb leaves lb (stored before words) nodes2 nb2 leaves2 lb2 (stored stores words) first j e g → SetsAside nodes nb leaves lb (stored [] words) nodes2 nb2 leaves2 lb2 s d
   all_aside re = part_aside nodes nodes2 nb nb2 leaves leaves2 lb lb2 s j first d e f g p many is same (stored [] words) (stored stores words) (subst (λ (x : List Store). ReplacesWords nodes nb leaves lb (stored x words) nodes2 nb2 leaves2 lb2 (stored stores words) first j e g) none re)

@@ -2,20 +2,20 @@
 use Rattle.std.proofs.Common.{◌≡◌, ℕ, suc, ◌^◌, ◌≤◌, List, [], ◌∷◌, ◌++◌, Bool, true, false, length, get_or, refl, sym, ap, ◌∙◌, arith, subst}
 use Rattle.buddy_arena.specs.Space.{Space, IsSized}
 use Rattle.buddy_arena.specs.Space as arena
-use Rattle.block_pool.specs.Places.{is_out, since}
-use Rattle.block_pool.specs.Arrays.{Array, AreApart, places_of}
-use Rattle.block_pool.specs.Blocks.{Held, Gives, blocks_of}
-use Rattle.block_pool.proofs.Parting.{since_not}
-use Rattle.block_pool.proofs.Sets.{among_in, not_among}
-use Rattle.poptrie_copy.specs.Changes.{Gains}
-use Rattle.poptrie_set.specs.Renewals.{Restores}
+use Rattle.buddy_arena.specs.Places.{is_out, since}
+use Rattle.buddy_arena.specs.Arrays.{Array, AreApart, places_of}
+use Rattle.buddy_arena.specs.Blocks.{Held, GivesBack, blocks_of}
+use Rattle.buddy_arena.proofs.Parting.{since_not}
+use Rattle.buddy_arena.proofs.Sets.{among_in, not_among}
+use Rattle.path_copying.specs.Changes.{Gains}
+use Rattle.poptrie_set.specs.Renewals.{GivesAllBack}
 use Rattle.poptrie_set.proofs.Kept.{more_apart}
 
 -- ---- the free places
 abbrev Within : List Bool → List Bool → Type 0
 Within f g = (i : ℕ) → is_out f i ≡ true → is_out g i ≡ true
 
-fewer_free : (f g : List Bool) → length f ≡ length g → Within f g → arena.total g ≤ arena.total f
+fewer_free : (f g : List Bool) → length f ≡ length g → Within f g → arena.free_count g ≤ arena.free_count f
 fewer_free [] [] l h = omega arith
 fewer_free [] (c ∷ g) l h = absurd (omega (arith, l))
 fewer_free (b ∷ f) [] l h = absurd (omega (arith, l))
@@ -24,7 +24,7 @@ fewer_free (true ∷ f) (false ∷ g) l h = let e = fewer_free f g (omega (arith
 fewer_free (false ∷ f) (false ∷ g) l h = let e = fewer_free f g (omega (arith, l)) (λ i q. h (suc i) q) in omega (arith, e)
 fewer_free (false ∷ f) (true ∷ g) l h = absurd (let e : false ≡ true = h 0 refl in cc)
 
-pub same_free : (f g : List Bool) → length f ≡ length g → Within f g → arena.total f ≡ arena.total g → f ≡ g
+pub same_free : (f g : List Bool) → length f ≡ length g → Within f g → arena.free_count f ≡ arena.free_count g → f ≡ g
 same_free [] [] l h t = refl
 same_free [] (c ∷ g) l h t = absurd (omega (arith, l))
 same_free (b ∷ f) [] l h t = absurd (omega (arith, l))
@@ -37,7 +37,7 @@ same_free (false ∷ f) (true ∷ g) l h t = absurd (let e : false ≡ true = h 
 pub taken_is : {T : Type 0} (e : T) (s m : Space T) (a b : Held) → a.taken ≡ [] → (g : Gains e s a m b) → g.more ≡ b.taken
 taken_is e s m a b none g = sym (g.taken ∙ ap (λ (x : List Array). x ++ g.more) none)
 
-pub restored : {T : Type 0} (e : T) (s m t : Space T) (a b : Held) → a.taken ≡ [] → IsSized s → Gains e s a m b → Gives b.taken m t → IsSized t → Restores e s t
+pub restored : {T : Type 0} (e : T) (s m t : Space T) (a b : Held) → a.taken ≡ [] → IsSized s → Gains e s a m b → GivesBack b.taken m t → IsSized t → GivesAllBack e s t
 restored e s m t a b none sized g back sized2 =
     let apart = subst (λ (x : List Array). AreApart (since (is_out s.free) (is_out m.free)) x) (taken_is e s m a b none g) g.apart in
     let still : (i : ℕ) → is_out s.free i ≡ true → is_out t.free i ≡ true = λ i q. back.still i (g.keeps.still i q) (not_among b.taken i (λ z. let f = since_not (is_out s.free i) (is_out m.free i) (among_in (since (is_out s.free) (is_out m.free)) b.taken i apart z) in cc)) in

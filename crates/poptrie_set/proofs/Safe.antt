@@ -5,12 +5,12 @@ use Rattle.std.proofs.lemmas.Bool.{leb-true, le-leb}
 use Rattle.std.proofs.lemmas.List.{append-nil}
 use Rattle.std.proofs.lemmas.Bool.Decides.{nat_tests}
 use Rattle.buddy_arena.specs.Space.{Space}
-use Rattle.block_pool.specs.Places.{is_out, since}
-use Rattle.block_pool.specs.Arrays.{Array, AreApart, among, has}
-use Rattle.block_pool.proofs.Parting.{since_not, part_right}
+use Rattle.buddy_arena.specs.Places.{is_out, since}
+use Rattle.buddy_arena.specs.Arrays.{Array, AreApart, among, has}
+use Rattle.buddy_arena.proofs.Parting.{since_not, part_right}
 use Rattle.poptrie_set.specs.Rooms.{Room, safe, room_at_end}
-use Rattle.block_pool.specs.Blocks.{Retired, Gives, early, late, blocks_of, at_end}
-use Rattle.block_pool.proofs.Sets.{both, both_left, both_right, not_true, was_false, either, or_left, or_right, not_among, among_append, among_in, no_common}
+use Rattle.buddy_arena.specs.Blocks.{Retired, GivesBack, early, late, blocks_of, at_end}
+use Rattle.buddy_arena.proofs.Sets.{both, both_left, both_right, not_true, was_false, either, or_left, or_right, not_among, among_append, among_in, no_common}
 
 some_made : (made : ℕ) → nat_eq (suc made) 0 ≡ false
 some_made made = grind (arith, nat_tests)
@@ -58,7 +58,7 @@ end_safe r made since t i l s =
     safe_from (room_at_end r t) 0 since i (safe_out r made since i s) (ap (λ (x : List Retired). among (blocks_of x) i) e ∙ safe_late r made since i s) refl
 
 -- what was taken is given back before a store was made
-pub cancel_safe : {T : Type 0} (r : Room T) (space : Space T) (since i : ℕ) → Gives r.taken r.space space → safe r 0 since i ≡ true → safe (record { space = space; taken = []; replaced = []; retired = r.retired }) 0 since i ≡ true
+pub cancel_safe : {T : Type 0} (r : Room T) (space : Space T) (since i : ℕ) → GivesBack r.taken r.space space → safe r 0 since i ≡ true → safe (record { space = space; taken = []; replaced = []; retired = r.retired }) 0 since i ≡ true
 cancel_safe r space since i g s = safe_from (record { space = space; taken = []; replaced = []; retired = r.retired }) 0 since i (g.still i (safe_out r 0 since i s) (safe_made r 0 since i s)) (safe_late r 0 since i s) refl
 
 -- what no open lookup reads is given back
@@ -113,7 +113,7 @@ module _ (since0 since : ℕ) (le : since0 ≤ since) where
       by again true h q = more (nat_le x.end since) (again q)
       by again false h q = either_way again (nat_le x.end since) q
 
-  module _ {T : Type 0} (r : Room T) (space : Space T) (g : Gives (blocks_of (early since0 r.retired)) r.space space) (none : r.taken ≡ []) where
+  module _ {T : Type 0} (r : Room T) (space : Space T) (g : GivesBack (blocks_of (early since0 r.retired)) r.space space) (none : r.taken ≡ []) where
     pub release_safe : (made i : ℕ) → safe r made since i ≡ true → safe (record { space = space; taken = []; replaced = []; retired = late since0 r.retired }) made since i ≡ true
     release_safe made i s =
         let e = safe_late r made since i s in

@@ -2,18 +2,18 @@
 -- the one that was refused.
 use Rattle.std.proofs.Common.{◌≡◌, ℕ, zero, suc, ◌+◌, ◌-◌, ◌^◌, ◌≤◌, List, [], ◌∷◌, ◌++◌, Bool, true, false, cond, nat_eq, length, Option, Some, None, refl, ap, ◌∙◌, arith, inl, inr}
 use Rattle.std.specs.List.{AllByRecursion}
-use Rattle.buddy_arena.specs.Space.{blocks, NoneFrom, total}
+use Rattle.buddy_arena.specs.Space.{blocks, NoneFrom, free_count}
 use Rattle.buddy_arena.specs.declared.arena.Full.{Full}
 use Rattle.buddy_arena.proofs.Blocks.{marked_len}
-use Rattle.block_pool.proofs.Powers.{up_least}
+use Rattle.buddy_arena.proofs.Powers.{up_least}
 use Rattle.fib_addr.specs.Answers.{one_answer, part}
 use Rattle.table_model.specs.Bits.{bits_of}
 use Rattle.poptrie_build.specs.Strides.{slots, slot, mixed, starts, run_start}
 use Rattle.poptrie_build.specs.Strides as strides
 use Rattle.poptrie_build.specs.Need.{children, runs}
-use Rattle.poptrie_copy.specs.Asks.{Ask, Frees, alike, ask_for, asks, if_changed, listed, slots_asks, word_asks, MeetsAsk, Runs, RunsOut}
-use Rattle.poptrie_copy.specs.declared.blocks.Refusal.TheVariants as refusal
-use Rattle.poptrie_copy.proofs.Retiring.{node_places, leaf_places, asks_left}
+use Rattle.path_copying.specs.Asks.{Ask, Frees, alike, ask_for, asks, if_changed, lists_of, slots_asks, word_asks, MeetsAsk, MeetsInTurn, RunsOut}
+use Rattle.path_copying.specs.declared.blocks.Refusal.TheVariants as refusal
+use Rattle.path_copying.proofs.Retiring.{node_places, leaf_places, asks_left}
 
 -- ---- no ask is for more than 64 places
 abbrev pub AreSmall : List Ask → Type 0
@@ -45,10 +45,10 @@ one_start (Some h) (Some k) = by (nat_eq h k)
     by true = omega arith
     by false = omega arith
 
-small_listed : (g : ℕ → List Ask) (n : ℕ) → ((v : ℕ) → AreSmall (g v)) → AreSmall (listed g n)
-unfolding listed
+small_listed : (g : ℕ → List Ask) (n : ℕ) → ((v : ℕ) → AreSmall (g v)) → AreSmall (lists_of g n)
+unfolding lists_of
 small_listed g zero h = tt
-small_listed g (suc n) h = small_append (listed g n) (g n) (small_listed g n h) (h n)
+small_listed g (suc n) h = small_append (lists_of g n) (g n) (small_listed g n h) (h n)
 
 small_if : (b : Bool) (o : Option ℕ) (xs : List Ask) → AreSmall xs → AreSmall (if_changed b o xs)
 small_if true o xs s = tt
@@ -60,7 +60,7 @@ unfolding asks
 small_asks zero d f g = tt
 small_asks (suc k) d f g =
     small_if (alike d f g) (one_answer d f) _
-    (small_append (ask_for 0 (children (slots d f)) ++ ask_for 1 (runs (slots d f))) (listed (λ v. asks k (d - 6) (slot d f v) (slot d g v)) 64)
+    (small_append (ask_for 0 (children (slots d f)) ++ ask_for 1 (runs (slots d f))) (lists_of (λ v. asks k (d - 6) (slot d f v) (slot d g v)) 64)
     (small_append (ask_for 0 (children (slots d f))) (ask_for 1 (runs (slots d f))) (small_for 0 (children (slots d f)) (few_of (λ v. mixed (slots d f v)) 64 (λ v. one_mixed (slots d f v)))) (small_for 1 (runs (slots d f)) (few_of (run_start (slots d f)) 64 (λ v. one_start (slots d f v) _))))
     (small_listed (λ v. asks k (d - 6) (slot d f v) (slot d g v)) 64 (λ v. small_asks k (d - 6) (slot d f v) (slot d g v))))
 
@@ -73,15 +73,15 @@ pub record IsShort (order asked : ℕ) (free : List Bool) (e : Full) : Type 0 wh
   pub then : List Bool
   pub long : length then ≡ 2 ^ order
   pub none : NoneFrom e.order (blocks order then)
-  pub left : total free + 2 ^ e.order ≤ asked + total then
+  pub left : free_count free + 2 ^ e.order ≤ asked + free_count then
   pub small : 2 ^ e.order ≤ 64
 
 met_long : (n l : ℕ) (a : Ask) (s t : Frees) → MeetsAsk n l a s t → (length t.0 ≡ length s.0) × (length t.1 ≡ length s.1)
 met_long n l (zero, need) s t m = (ap length m.0.3.free ∙ marked_len m.0.0 (2 ^ m.0.1) false s.0, ap length m.1)
 met_long n l (suc a, need) s t m = (ap length m.1, ap length m.0.3.free ∙ marked_len m.0.0 (2 ^ m.0.1) false s.1)
 
-met_left : (n l : ℕ) (a : Ask) (s t : Frees) → MeetsAsk n l a s t → (total s.0 ≤ node_places (a ∷ []) + total t.0) × (total s.1 ≤ leaf_places (a ∷ []) + total t.1)
-unfolding Runs
+met_left : (n l : ℕ) (a : Ask) (s t : Frees) → MeetsAsk n l a s t → (free_count s.0 ≤ node_places (a ∷ []) + free_count t.0) × (free_count s.1 ≤ leaf_places (a ∷ []) + free_count t.1)
+unfolding MeetsInTurn
 met_left n l a s t m = asks_left n l (a ∷ []) s t (t, m, refl)
 
 pub nodes_short : (n l : ℕ) (xs : List Ask) (s : Frees) (e : Full) → length s.0 ≡ 2 ^ n → AreSmall xs → RunsOut n l xs s (refusal.Nodes e) → IsShort n (node_places xs) s.0 e

@@ -15,9 +15,9 @@ use Rattle.table_model.proofs.Cost.{agg_answers}
 use Rattle.fib_addr.specs.Answers.{part, all_answers}
 use Rattle.poptrie_build.specs.Strides.{strides}
 use Rattle.poptrie_build.specs.Tries.{Shown, StandsFor, StandsForAnswers, rest}
-use Rattle.poptrie_copy.specs.Alike.{Alike}
-use Rattle.poptrie_copy.proofs.Alike_row.{row_alike}
-use Rattle.poptrie_copy.proofs.Whole.{row_of, trie_of, nodes_filled, leaves_filled}
+use Rattle.path_copying.specs.Alike.{SameAnswers}
+use Rattle.path_copying.proofs.Alike_row.{row_alike}
+use Rattle.path_copying.proofs.Whole.{row_of, trie_of, nodes_filled, leaves_filled}
 use Rattle.std.specs.Prelude.{slice_index}
 
 -- a table of these answers: the least one
@@ -34,7 +34,7 @@ slotwise s h a = h (value_of (take s a)) (drop s a)
 abbrev pub slots_table : Family → ℕ → (ℕ → List Bool → ℕ) → Entries
 slots_table f s h = table_for f (slotwise s h)
 
-pub slots_answers : (f : Family) (s : ℕ) (h : ℕ → List Bool → ℕ) (u : ℕ) → s + rest f s ≡ width f → u < 2 ^ s → Alike (rest f s) (part (bits_of s u) (all_answers f (slots_table f s h))) (h u)
+pub slots_answers : (f : Family) (s : ℕ) (h : ℕ → List Bool → ℕ) (u : ℕ) → s + rest f s ≡ width f → u < 2 ^ s → SameAnswers (rest f s) (part (bits_of s u) (all_answers f (slots_table f s h))) (h u)
 slots_answers f s h u whole low a n =
     let b = bits_of s u in
     let long : length b ≡ s = length-bits_of s u in

@@ -14,19 +14,19 @@ use Rattle.poptrie_build.specs.Stands.{TrieStands}
 use Rattle.poptrie_build.specs.Strides.{strides}
 use Rattle.poptrie_build.specs.Tries.{rest}
 use Rattle.fib_addr.specs.Answers.{all_answers}
-use Rattle.block_pool.specs.Places.{is_out}
-use Rattle.block_pool.specs.Arrays.{Array, AreApart}
+use Rattle.buddy_arena.specs.Places.{is_out}
+use Rattle.buddy_arena.specs.Arrays.{Array, AreApart}
 use Rattle.poptrie_build.specs.Arrays.{word_arrays, word_leaf_arrays}
 use Rattle.poptrie_build.specs.declared.node.Node.{Node}
-use Rattle.block_pool.specs.Blocks.{Retired, blocks_of, at_end, Gives}
+use Rattle.buddy_arena.specs.Blocks.{Retired, blocks_of, at_end, GivesBack}
 use Rattle.poptrie_set.specs.Rooms.{room_at_end, quiet_room}
 use Rattle.poptrie_set.specs.Version.{IsVersion}
-use Rattle.poptrie_set.specs.Lives.{Seen, Store, covers, Beside}
-use Rattle.block_pool.proofs.Sets.{apart_less, front_back, places_append, either}
+use Rattle.poptrie_set.specs.Lives.{Seen, Store, stores_cover, Beside}
+use Rattle.buddy_arena.proofs.Sets.{apart_less, front_back, places_append, either}
 
 -- ---- blocks that are given back
 module _ (f : Family) (s : ℕ) (nodes nodes2 : Space Node) (leaves leaves2 : Space ℕ) (direct : List ℕ) (L : Entries) (gone beside gone2 beside2 : List Array) where
-  pub version_given : IsVersion f s nodes leaves direct L (gone ++ beside) (gone2 ++ beside2) → Gives gone nodes nodes2 → Gives gone2 leaves leaves2 → IsVersion f s nodes2 leaves2 direct L beside beside2
+  pub version_given : IsVersion f s nodes leaves direct L (gone ++ beside) (gone2 ++ beside2) → GivesBack gone nodes nodes2 → GivesBack gone2 leaves leaves2 → IsVersion f s nodes2 leaves2 direct L beside beside2
   version_given v a b = record {
     words = subst (λ (c : List Node). TrieStands s direct (strides (rest f s)) c leaves2.cells (rest f s) (all_answers f L)) (sym a.cells) (subst (λ (c : List ℕ). TrieStands s direct (strides (rest f s)) nodes.cells c (rest f s) (all_answers f L)) (sym b.cells) v.words);
     nodes_apart = λ k.
@@ -51,16 +51,16 @@ module _ (f : Family) (s : ℕ) (nodes : Space Node) (leaves : Space ℕ) (direc
   }
 
 -- ---- a word is stored
-covers_append : (xs ys : List Store) (v : ℕ) → covers (xs ++ ys) v ≡ (covers xs v || covers ys v)
+covers_append : (xs ys : List Store) (v : ℕ) → stores_cover (xs ++ ys) v ≡ (stores_cover xs v || stores_cover ys v)
 covers_append [] ys v = refl
-covers_append (x ∷ xs) ys v = ap (λ b. nat_eq x.0 v || b) (covers_append xs ys v) ∙ assoc (nat_eq x.0 v) (covers xs v) (covers ys v)
+covers_append (x ∷ xs) ys v = ap (λ b. nat_eq x.0 v || b) (covers_append xs ys v) ∙ assoc (nat_eq x.0 v) (stores_cover xs v) (stores_cover ys v)
   where
     assoc : (a b c : Bool) → (a || (b || c)) ≡ ((a || b) || c)
     assoc true b c = refl
     assoc false b c = refl
 
-covers_next : (stores : List Store) (made v : ℕ) → made < length stores → covers (take (suc made) stores) v ≡ (covers (take made stores) v || (nat_eq (get_or stores made (0, 0)).0 v || false))
-covers_next stores made v l = ap (λ (x : List Store). covers x v) (take-suc stores made (0, 0) l) ∙ covers_append (take made stores) (get_or stores made (0, 0) ∷ []) v
+covers_next : (stores : List Store) (made v : ℕ) → made < length stores → stores_cover (take (suc made) stores) v ≡ (stores_cover (take made stores) v || (nat_eq (get_or stores made (0, 0)).0 v || false))
+covers_next stores made v l = ap (λ (x : List Store). stores_cover x v) (take-suc stores made (0, 0) l) ∙ covers_append (take made stores) (get_or stores made (0, 0) ∷ []) v
 
 at_store : (P : Store → Type 0) (stores : List Store) (i : ℕ) → i < length stores → AllByRecursion P stores → P (get_or stores i (0, 0))
 at_store P [] i l a = absurd (omega arith)
@@ -94,12 +94,12 @@ module _ (l : Seen) (L M : Entries) (old new : List ℕ) (b : Beside l L M old n
     made = omega arith;
     words = length-set l.words now.0 now.1 ∙ b.words;
     stored = λ v h c.
-        elim (either (covers (take l.made l.stores) v) _ (sym (covers_next l.stores l.made v more) ∙ c)) [
+        elim (either (stores_cover (take l.made l.stores) v) _ (sym (covers_next l.stores l.made v more) ∙ c)) [
           | inl e ↦ by v h e
           | inr e ↦ mine v (once (nat_eq now.0 v) e)
         ];
     unstored = λ v h c.
-        let n = neither (covers (take l.made l.stores) v) (nat_eq now.0 v) (sym (covers_next l.stores l.made v more) ∙ c) in
+        let n = neither (stores_cover (take l.made l.stores) v) (nat_eq now.0 v) (sym (covers_next l.stores l.made v more) ∙ c) in
         get_or-set_other l.words now.0 v now.1 0 (apart_eq now.0 v n.1) ∙ b.unstored v h n.0;
     shared = b.shared;
     due = b.due;
@@ -112,7 +112,7 @@ module _ (l : Seen) (L M : Entries) (old new : List ℕ) (b : Beside l L M old n
       mine : (v : ℕ) → nat_eq now.0 v ≡ true → get_or (set l.words now.0 now.1) v 0 ≡ get_or new v 0
       mine v e = let p : now.0 ≡ v = eqb-true now.0 v e in subst (λ (i : ℕ). get_or (set l.words now.0 now.1) i 0 ≡ get_or new i 0) p (get_or-set_same l.words now.0 now.1 0 (omega (arith, due.0, b.words)) ∙ sym due.1)
 
-      by : (v : ℕ) → v < 2 ^ l.direct_bits → covers (take l.made l.stores) v ≡ true → get_or (set l.words now.0 now.1) v 0 ≡ get_or new v 0
+      by : (v : ℕ) → v < 2 ^ l.direct_bits → stores_cover (take l.made l.stores) v ≡ true → get_or (set l.words now.0 now.1) v 0 ≡ get_or new v 0
       by v h e = two (nat_eq now.0 v) refl
         where
           two : (x : Bool) → nat_eq now.0 v ≡ x → get_or (set l.words now.0 now.1) v 0 ≡ get_or new v 0
@@ -120,8 +120,8 @@ module _ (l : Seen) (L M : Entries) (old new : List ℕ) (b : Beside l L M old n
           two false p = get_or-set_other l.words now.0 v now.1 0 (apart_eq now.0 v p) ∙ b.stored v h e
 
 -- ---- an end
-covers_all : (stores : List Store) (made v : ℕ) → made ≡ length stores → covers (take made stores) v ≡ covers stores v
-covers_all stores made v e = ap (λ (x : List Store). covers x v) (take_whole stores made e)
+covers_all : (stores : List Store) (made v : ℕ) → made ≡ length stores → stores_cover (take made stores) v ≡ stores_cover stores v
+covers_all stores made v e = ap (λ (x : List Store). stores_cover x v) (take_whole stores made e)
   where
     take_whole : (xs : List Store) (n : ℕ) → n ≡ length xs → take n xs ≡ xs
     take_whole xs n e = take_all n xs (omega arith)
@@ -139,9 +139,9 @@ at_its_end l = record l { nodes = room_at_end l.nodes (suc l.time); leaves = roo
 
 module _ (l : Seen) (L M : Entries) (old new : List ℕ) (b : Beside l L M old new) (all : l.made ≡ length l.stores) where
   words_new : l.words ≡ new
-  words_new = same_number_lists l.words new (b.words ∙ sym b.after.words.words) (λ v h. by v (omega (arith, h, b.words)) (covers (take l.made l.stores) v) refl)
+  words_new = same_number_lists l.words new (b.words ∙ sym b.after.words.words) (λ v h. by v (omega (arith, h, b.words)) (stores_cover (take l.made l.stores) v) refl)
     where
-      by : (v : ℕ) → v < 2 ^ l.direct_bits → (c : Bool) → covers (take l.made l.stores) v ≡ c → get_or l.words v 0 ≡ get_or new v 0
+      by : (v : ℕ) → v < 2 ^ l.direct_bits → (c : Bool) → stores_cover (take l.made l.stores) v ≡ c → get_or l.words v 0 ≡ get_or new v 0
       by v h true e = b.stored v h e
       by v h false e = b.unstored v h e ∙ b.shared v h (sym (covers_all l.stores l.made v all) ∙ e)
 
@@ -170,7 +170,7 @@ abbrev pub at_its_cancel : Seen → Space Node → Space ℕ → Seen
 at_its_cancel l nodes leaves = record l { nodes = quiet_room nodes l.nodes.retired; leaves = quiet_room leaves l.leaves.retired; pending = false; stores = []; made = 0 }
 
 module _ (l : Seen) (nodes : Space Node) (leaves : Space ℕ) (L M : Entries) (old new : List ℕ) (b : Beside l L M old new) (none : l.made ≡ 0) where
-  pub cancel_shows : Gives l.nodes.taken l.nodes.space nodes → Gives l.leaves.taken l.leaves.space leaves → Beside (at_its_cancel l nodes leaves) L L old old
+  pub cancel_shows : GivesBack l.nodes.taken l.nodes.space nodes → GivesBack l.leaves.taken l.leaves.space leaves → Beside (at_its_cancel l nodes leaves) L L old old
   cancel_shows x y =
       let v = version_given l.family l.direct_bits l.nodes.space nodes l.leaves.space leaves old L l.nodes.taken (blocks_of l.nodes.retired) l.leaves.taken (blocks_of l.leaves.retired) b.before x y in
       record {
@@ -181,7 +181,7 @@ module _ (l : Seen) (nodes : Space Node) (leaves : Space ℕ) (L M : Entries) (o
         made = omega arith;
         words = b.words;
         stored = λ i h e. cc;
-        unstored = λ i h e. b.unstored i h (ap (λ (n : ℕ). covers (take n l.stores) i) none);
+        unstored = λ i h e. b.unstored i h (ap (λ (n : ℕ). stores_cover (take n l.stores) i) none);
         shared = λ i h e. refl;
         due = tt;
       }

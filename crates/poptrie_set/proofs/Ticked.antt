@@ -2,8 +2,8 @@
 use Rattle.std.proofs.Common.{◌≡◌, ℕ, suc, ◌≤◌, List, [], ◌∷◌, ◌++◌, get_or, sym, ap, ◌∙◌, arith, append-nil, subst}
 use Rattle.std.proofs.lemmas.List.{length-append}
 use Rattle.buddy_arena.specs.Space.{Space}
-use Rattle.block_pool.specs.Arrays.{Array}
-use Rattle.block_pool.specs.Blocks.{Held, Retired, ended, at_end}
+use Rattle.buddy_arena.specs.Arrays.{Array}
+use Rattle.buddy_arena.specs.Blocks.{Held, Retired, ended, at_end}
 use Rattle.poptrie_build.specs.declared.node.Node.{Node}
 use Rattle.poptrie_set.specs.Rooms.{Room, room_of}
 use Rattle.poptrie_set.specs.Lives.{Seen}

@@ -5,7 +5,7 @@ use Rattle.poptrie_build.specs.Bits.{rank_of}
 use Rattle.poptrie_build.specs.Stands.{IsLeaf, node_at, blank}
 use Rattle.poptrie_build.specs.declared.node.Node.{Node}
 use Rattle.poptrie_build.proofs.Walk.{default_same}
-use Rattle.poptrie_copy.proofs.Set_bits.{zero_bit, one_bit}
+use Rattle.path_copying.proofs.Set_bits.{zero_bit, one_bit}
 use Rattle.poptrie_set.specs.Reading.{ByBit, ReadsOn}
 
 -- its parts

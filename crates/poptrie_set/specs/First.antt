@@ -6,7 +6,7 @@ use Rattle.table_model.specs.Entries.{Entries, match_in}
 use Rattle.poptrie_build.specs.Keys.{key_as}
 use Rattle.poptrie_build.specs.Tries.{visits_of}
 use Rattle.poptrie_set.specs.Rooms.{safe}
-use Rattle.poptrie_set.specs.Lives.{Seen, covers}
+use Rattle.poptrie_set.specs.Lives.{Seen, stores_cover}
 use Rattle.poptrie_set.specs.Reading.{ReadsOn, key_after}
 use Rattle.poptrie_set.specs.declared.reading.At.{At}
 use Rattle.poptrie_set.specs.declared.reading.At.TheVariants as at
@@ -17,7 +17,7 @@ slot_of s a = key_as a / 2 ^ (128 - s)
 
 -- the entries that are published to an address: those after the update where a store that was made covers its slot
 abbrev pub published_in : Seen → Entries → Entries → Addr → Entries
-published_in l L M a = cond (covers (take l.made l.stores) (slot_of l.direct_bits a)) M L
+published_in l L M a = cond (stores_cover (take l.made l.stores) (slot_of l.direct_bits a)) M L
 
 -- what was read is the address's answer in these entries, of which no node is to be visited, or the first node of those that are,
 -- all in places that nothing writes or gives back before the lookup ends, whenever it started

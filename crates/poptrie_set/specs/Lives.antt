@@ -4,13 +4,13 @@ use Rattle.std.specs.List.{AllByRecursion}
 use Rattle.table_model.specs.declared.family.Family.{Family}
 use Rattle.table_model.specs.Entries.{Entries}
 use Rattle.buddy_arena.specs.Space.{Space, IsSized}
-use Rattle.block_pool.specs.Places.{is_out}
-use Rattle.block_pool.specs.Arrays.{places_of}
-use Rattle.block_pool.specs.Blocks.{Held, blocks_of, AreHeldIn}
+use Rattle.buddy_arena.specs.Places.{is_out}
+use Rattle.buddy_arena.specs.Arrays.{places_of}
+use Rattle.buddy_arena.specs.Blocks.{Held, blocks_of, AreHeldIn}
 use Rattle.poptrie_build.specs.Tries.{node_need, leaf_need, IsTooMuch}
 use Rattle.poptrie_build.specs.declared.filling.TrieFull.{TrieFull}
 use Rattle.poptrie_build.specs.declared.node.Node.{Node}
-use Rattle.poptrie_copy.specs.declared.slots.Store.{Store as Stored}
+use Rattle.path_copying.specs.declared.slots.Store.{Store as Stored}
 use Rattle.poptrie_set.specs.declared.trie_set.Pending.{Pending}
 use Rattle.poptrie_set.specs.Rooms.{Room}
 use Rattle.poptrie_set.specs.Version.{IsVersion}
@@ -37,9 +37,9 @@ abbrev pub HasSizesOf : Seen → Seen → Type 0
 HasSizesOf old new = (new.family ≡ old.family) × (new.direct_bits ≡ old.direct_bits) × (new.nodes.space.order ≡ old.nodes.space.order) × (new.leaves.space.order ≡ old.leaves.space.order)
 
 -- whether one of the stores is at the slot
-abbrev pub covers : List Store → ℕ → Bool
-covers [] v = false
-covers (s ∷ rest) v = nat_eq s.0 v || covers rest v
+abbrev pub stores_cover : List Store → ℕ → Bool
+stores_cover [] v = false
+stores_cover (s ∷ rest) v = nat_eq s.0 v || stores_cover rest v
 
 -- a new copy beside the old blocks, or nothing pending: both versions stand in the arenas, one in the words as they were and one in
 -- the words as they will be. A pending block stands in none of the first's, a replaced one in none of the second's, and a store
@@ -51,9 +51,9 @@ pub record Beside (l : Seen) (L M : Entries) (old new : List ℕ) : Type 0 where
   pub leaves_few : places_of l.leaves.replaced ≤ leaf_need l.family l.direct_bits L
   pub made : l.made ≤ length l.stores
   pub words : length l.words ≡ 2 ^ l.direct_bits
-  pub stored : (v : ℕ) → v < 2 ^ l.direct_bits → covers (take l.made l.stores) v ≡ true → slice_index l.words v ≡ slice_index new v
-  pub unstored : (v : ℕ) → v < 2 ^ l.direct_bits → covers (take l.made l.stores) v ≡ false → slice_index l.words v ≡ slice_index old v
-  pub shared : (v : ℕ) → v < 2 ^ l.direct_bits → covers l.stores v ≡ false → slice_index old v ≡ slice_index new v
+  pub stored : (v : ℕ) → v < 2 ^ l.direct_bits → stores_cover (take l.made l.stores) v ≡ true → slice_index l.words v ≡ slice_index new v
+  pub unstored : (v : ℕ) → v < 2 ^ l.direct_bits → stores_cover (take l.made l.stores) v ≡ false → slice_index l.words v ≡ slice_index old v
+  pub shared : (v : ℕ) → v < 2 ^ l.direct_bits → stores_cover l.stores v ≡ false → slice_index old v ≡ slice_index new v
   pub due : AllByRecursion (λ (s : Store). (s.0 < 2 ^ l.direct_bits) × (slice_index new s.0 ≡ s.1)) l.stores
 
 -- the direct words stand for the first entries where no store that was made covers the slot, and else for the second

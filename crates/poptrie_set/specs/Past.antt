@@ -1,6 +1,6 @@
 -- The needs of the versions so far, which bound what is retired.
 use Rattle.std.specs.Prelude.{◌≡◌, ℕ, suc, ◌+◌, ◌≤◌, List, [], ◌∷◌, cond, nat_eq, slice_index_or, length}
-use Rattle.block_pool.specs.Blocks.{Retired}
+use Rattle.buddy_arena.specs.Blocks.{Retired}
 use Rattle.poptrie_set.specs.Lives.{Seen}
 
 -- the places of the blocks retired at this end

@@ -6,13 +6,13 @@ use Rattle.table_model.specs.Bits.{bits_of}
 use Rattle.table_model.specs.declared.family.Family.{Family}
 use Rattle.table_model.specs.Entries.{Entries, match_in}
 use Rattle.buddy_arena.specs.Space.{Space, IsSized}
-use Rattle.block_pool.specs.Blocks.{Gives, blocks_of, early}
+use Rattle.buddy_arena.specs.Blocks.{GivesBack, blocks_of, early}
 use Rattle.fib_addr.specs.Answers.{part, all_answers}
 use Rattle.poptrie_build.specs.Strides.{strides}
 use Rattle.poptrie_build.specs.Tries.{rest, node_need, leaf_need}
 use Rattle.poptrie_build.specs.declared.node.Node.{Node}
-use Rattle.poptrie_copy.specs.Asks.{Ask, slots_asks, Runs}
-use Rattle.poptrie_set.specs.Lives.{Seen, Store, covers}
+use Rattle.path_copying.specs.Asks.{Ask, slots_asks, MeetsInTurn}
+use Rattle.poptrie_set.specs.Lives.{Seen, Store, stores_cover}
 use Rattle.poptrie_set.specs.Reasons.{IsReason}
 use Rattle.poptrie_set.specs.declared.reasons.NotReady.{NotReady}
 
@@ -32,7 +32,7 @@ AreInOrder (s ∷ rest) = AllByRecursion (λ (t : Store). s.0 < t.0) rest × Are
 -- the words of these slots are stored, in the order of the slots: just those at which an address gets another answer
 pub record StoresJust (f : Family) (s : ℕ) (L M : Entries) (stores : List Store) : Type 0 where
   pub in_order : AreInOrder stores
-  pub just : (v : ℕ) → v < 2 ^ s → (covers stores v ≡ false) ↔ SameAt f s L M v
+  pub just : (v : ℕ) → v < 2 ^ s → (stores_cover stores v ≡ false) ↔ SameAt f s L M v
 
 -- the blocks that an update from the first entries to the second asks its arenas for, in their order
 abbrev pub asks_of : Family → ℕ → Entries → Entries → List Ask
@@ -40,14 +40,14 @@ asks_of f s L M = slots_asks (strides (rest f s)) s (rest f s) (all_answers f M)
 
 -- what was retired by this time is given back, and of both arenas these spaces are left
 pub record GaveBack (since : ℕ) (l : Seen) (node_space : Space Node) (leaf_space : Space ℕ) : Type 0 where
-  pub nodes : Gives (blocks_of (early since l.nodes.retired)) l.nodes.space node_space
-  pub leaves : Gives (blocks_of (early since l.leaves.retired)) l.leaves.space leaf_space
+  pub nodes : GivesBack (blocks_of (early since l.nodes.retired)) l.nodes.space node_space
+  pub leaves : GivesBack (blocks_of (early since l.leaves.retired)) l.leaves.space leaf_space
   pub nodes_sized : IsSized node_space
   pub leaves_sized : IsSized leaf_space
 
 -- each ask is met in its turn from what was free before
 abbrev pub AsksRun : Seen → Seen → Entries → Entries → Type 0
-AsksRun old new L M = Runs old.nodes.space.order old.leaves.space.order (asks_of old.family old.direct_bits L M) (old.nodes.space.free, old.leaves.space.free) (new.nodes.space.free, new.leaves.space.free)
+AsksRun old new L M = MeetsInTurn old.nodes.space.order old.leaves.space.order (asks_of old.family old.direct_bits L M) (old.nodes.space.free, old.leaves.space.free) (new.nodes.space.free, new.leaves.space.free)
 
 -- of the asks one is refused, or they are too much
 abbrev pub AsksRunOut : Seen → Entries → Entries → NotReady → Type 0

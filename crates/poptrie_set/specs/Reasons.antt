@@ -3,9 +3,9 @@ use Rattle.std.specs.Prelude.{◌≡◌, ℕ, ◌^◌, ◌≤◌, List}
 use Rattle.buddy_arena.specs.Space.{Space}
 use Rattle.poptrie_build.specs.Tries.{IsTooMuch}
 use Rattle.poptrie_build.specs.declared.node.Node.{Node}
-use Rattle.poptrie_copy.specs.Asks.{Ask, RunsOut}
-use Rattle.poptrie_copy.specs.declared.blocks.Refusal.{Refusal}
-use Rattle.poptrie_copy.specs.declared.blocks.Refusal.TheVariants as refusal
+use Rattle.path_copying.specs.Asks.{Ask, RunsOut}
+use Rattle.path_copying.specs.declared.blocks.Refusal.{Refusal}
+use Rattle.path_copying.specs.declared.blocks.Refusal.TheVariants as refusal
 use Rattle.poptrie_set.specs.declared.reasons.NotReady.{NotReady}
 use Rattle.poptrie_set.specs.declared.reasons.NotReady.TheVariants as why
 

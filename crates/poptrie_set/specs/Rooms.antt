@@ -1,9 +1,9 @@
 -- An arena with its blocks that belong to no present version, or won't, and the places that a lookup may read.
 use Rattle.std.specs.Prelude.{ℕ, List, [], ◌++◌, Bool, not, ◌&&◌, nat_eq}
 use Rattle.buddy_arena.specs.Space.{Space}
-use Rattle.block_pool.specs.Places.{is_out}
-use Rattle.block_pool.specs.Arrays.{Array, among}
-use Rattle.block_pool.specs.Blocks.{Held, Retired, blocks_of, early, at_end}
+use Rattle.buddy_arena.specs.Places.{is_out}
+use Rattle.buddy_arena.specs.Arrays.{Array, among}
+use Rattle.buddy_arena.specs.Blocks.{Held, Retired, blocks_of, early, at_end}
 
 -- the blocks that the pending update took, those that it replaces, and the retired ones
 pub record Room (T : Type 0) : Type 0 where

@@ -5,13 +5,13 @@ use Rattle.table_model.specs.Entries.{Entries}
 use Rattle.buddy_arena.specs.Space.{Space}
 use Rattle.poptrie_build.specs.Strides.{strides}
 use Rattle.poptrie_build.specs.Stands.{TrieStands}
-use Rattle.block_pool.specs.Places.{count_free, is_out}
-use Rattle.block_pool.specs.Arrays.{Array, AreApart}
+use Rattle.buddy_arena.specs.Places.{count_free, is_out}
+use Rattle.buddy_arena.specs.Arrays.{Array, AreApart}
 use Rattle.poptrie_build.specs.Arrays.{word_arrays, word_leaf_arrays}
 use Rattle.poptrie_build.specs.Tries.{rest, node_need, leaf_need}
 use Rattle.fib_addr.specs.Answers.{all_answers}
 use Rattle.poptrie_build.specs.declared.node.Node.{Node}
-use Rattle.block_pool.specs.Arrays.{places_of}
+use Rattle.buddy_arena.specs.Arrays.{places_of}
 
 -- the words stand for the entries' answers; their arrays and the other blocks are out, and no two of all these share a place; so
 -- each array of the version has one parent. With the free places they fill the arenas. With no other blocks this is what a trie of

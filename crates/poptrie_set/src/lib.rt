@@ -11,7 +11,7 @@
 mod crowd_laws;
 mod reading;
 mod reasons;
-mod renewing;
+mod rebuilding;
 mod trie_set;
 
 pub use crowd_laws::crowded_law;

@@ -7,8 +7,8 @@ ghost use Rattle.poptrie_set.specs.Reasons.{Explains};
 
 use buddy_arena::{Arena, Full};
 use fib_addr::Region;
+use path_copying::Refusal;
 use poptrie_build::{Node, TrieFull, count_words};
-use poptrie_copy::Refusal;
 use thiserror::Error;
 
 /// Why an update isn't made ready.

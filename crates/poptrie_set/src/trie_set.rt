@@ -2,12 +2,11 @@
 
 use crate::reading::{At, visit};
 use crate::reasons::{NotReady, reason};
-use crate::renewing::renew_or_undo;
-use block_pool::Blocks;
-use buddy_arena::Arena;
+use crate::rebuilding::rebuild_or_undo;
+use buddy_arena::{Arena, Blocks};
 use fib_addr::{Addr, Answers, Family, Hop, Prefix, PrefixRegion, Region, Steps};
+use path_copying::Store;
 use poptrie_build::{Found, HOP, Node, TrieFull, clear_all, empty_words, fill_all, key_of};
-use poptrie_copy::Store;
 use std::alloc::{AllocError, Global};
 use std::marker::Model;
 use std::sync::ledger::Ledger;
@@ -87,7 +86,7 @@ impl TrieSet {
     ghost use Rattle.fib_addr.specs.Views.{addr_as, prefix_as};
     ghost use Rattle.table_model.specs.Entries.{Entries, match_in};
     ghost use Rattle.fib_addr.specs.Answers.{all_answers};
-    ghost use Rattle.block_pool.specs.Blocks.{Gives, late};
+    ghost use Rattle.buddy_arena.specs.Blocks.{GivesBack, late};
     ghost use Rattle.poptrie_build.specs.Tries.{node_need, leaf_need, visits_of};
     ghost use Rattle.poptrie_set.specs.Lives.{Seen, ShowsIn, HasSizesOf, IsTokenIn, IsTooMuchFor};
     ghost use Rattle.poptrie_set.specs.Fits.{Reader, FitsIn, IsOldestOf, until};
@@ -256,7 +255,7 @@ impl TrieSet {
             → AgreeOutside (prefix_as prefix.now) L M → AsksRunOut self.old L M e) }
         ensures fits { (os : List Reader) → FitsIn self.old os → FitsIn self.new os }
     {
-        let made = renew_or_undo(
+        let made = rebuild_or_undo(
             region,
             prefix,
             self.direct_bits,
@@ -459,9 +458,9 @@ impl TrieSet {
         ensures words { self.new.words ≡ self.old.words }
         ensures retired { (self.new.nodes.retired ≡ self.old.nodes.retired)
             × (self.new.leaves.retired ≡ self.old.leaves.retired) }
-        ensures nodes { OnOk result (Gives self.old.nodes.taken self.old.nodes.space
+        ensures nodes { OnOk result (GivesBack self.old.nodes.taken self.old.nodes.space
             self.new.nodes.space) }
-        ensures leaves { OnOk result (Gives self.old.leaves.taken self.old.leaves.space
+        ensures leaves { OnOk result (GivesBack self.old.leaves.taken self.old.leaves.space
             self.new.leaves.space) }
         ensures shows { OnOk result ((L M : Entries) → ShowsIn self.old L M → ShowsIn self.new L L) }
         ensures fits { OnOk result ((os : List Reader) → FitsIn self.old os → FitsIn self.new os) }

@@ -7,13 +7,13 @@ use Rattle.table_model.specs.Entries.{Entries}
 use Rattle.buddy_arena.specs.Space.{Space}
 use Rattle.poptrie_build.specs.Tries.{node_need, leaf_need, IsTooMuch}
 use Rattle.poptrie_build.specs.declared.node.Node.{Node}
-use Rattle.poptrie_copy.specs.Asks.{Runs, RunsOut}
-use Rattle.poptrie_copy.specs.declared.blocks.Refusal.{Refusal}
+use Rattle.path_copying.specs.Asks.{MeetsInTurn, RunsOut}
+use Rattle.path_copying.specs.declared.blocks.Refusal.{Refusal}
 use Rattle.poptrie_set.specs.Fits.{until}
 use Rattle.poptrie_set.specs.Prepares.{asks_of, GaveBack}
 use Rattle.poptrie_set.specs.declared.trie_set.Oldest.{Oldest}
 use Rattle.poptrie_update.specs.Lives.{Living, HasShapeOf, freed}
-use Rattle.poptrie_update.specs.Prepares.{IsFreeBy, IsRetiredAfter, RunsShort, IsBeside, IsNotBeside, IsMade, IsMadeIn, IsRefused, refusal_in}
+use Rattle.poptrie_update.specs.Prepares.{IsFreeBy, IsRetiredAfter, RunsShort, IsBeside, IsNotBeside, IsMade, IsMadeIn, IsNotReady, refusal_in}
 use Rattle.poptrie_update.specs.declared.live.Other.{Other}
 use Rattle.poptrie_update.specs.declared.live.Other.TheVariants as other
 use Rattle.poptrie_update.specs.declared.pending.Pending.{Pending}
@@ -54,13 +54,13 @@ module _ (old mid : Living) (shape : HasShapeOf old mid) (L M : Entries) where
       record { nodes_fit = x.0; leaves_fit = x.1; refused = x.2 }
 
   made_in : (since : ℕ) (new : Living) (p : Stores) → mid.state ≡ freed since old.state → IsBeside p mid new L M → IsMadeIn since p old new L M mid.selected.nodes.space mid.selected.leaves.space
-  made_in since new (stores.Words w) e x = (x.0 ∙ e, asked (λ f d. Runs mid.selected.nodes.space.order mid.selected.leaves.space.order (asks_of f d L M) (mid.selected.nodes.space.free, mid.selected.leaves.space.free) (new.selected.nodes.space.free, new.selected.leaves.space.free)) x.1)
+  made_in since new (stores.Words w) e x = (x.0 ∙ e, asked (λ f d. MeetsInTurn mid.selected.nodes.space.order mid.selected.leaves.space.order (asks_of f d L M) (mid.selected.nodes.space.free, mid.selected.leaves.space.free) (new.selected.nodes.space.free, new.selected.leaves.space.free)) x.1)
   made_in since new (stores.Selector stored) e x = (free_by since old.state (sym e ∙ x.0), (x.1.0, short mid.selected.nodes.space mid.selected.leaves.space x.1.0 x.1.1))
 
   pub is_made : (since : ℕ) (new : Living) (p : Pending) → mid.state ≡ freed since old.state → GaveBack since old.selected mid.selected.nodes.space mid.selected.leaves.space → IsBeside p.stores mid new L M → IsMade since p old new L M
   is_made since new p e given x = (mid.selected.nodes.space, mid.selected.leaves.space, given, made_in since new p.stores e x)
 
-  pub is_refused : (who : Oldest) (time : ℕ) (e : NotReady) → mid.state ≡ freed (until who time) old.state → GaveBack (until who time) old.selected mid.selected.nodes.space mid.selected.leaves.space → IsNotBeside who e mid L M → IsRefused who e old L M
+  pub is_refused : (who : Oldest) (time : ℕ) (e : NotReady) → mid.state ≡ freed (until who time) old.state → GaveBack (until who time) old.selected mid.selected.nodes.space mid.selected.leaves.space → IsNotBeside who e mid L M → IsNotReady who e old L M
   is_refused who time why.Memory es given x = tt
   is_refused who time (why.TooMuch t) es given x =
       subst (λ (n : ℕ). IsTooMuch t.arena t.need t.have (node_need old.selected.family old.selected.direct_bits M) (leaf_need old.selected.family old.selected.direct_bits M) (2 ^ old.selected.nodes.space.order) (2 ^ n)) shape.3

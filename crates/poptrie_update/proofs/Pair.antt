@@ -3,7 +3,7 @@ use Rattle.std.proofs.Common.{◌≡◌, ℕ, suc, ◌-◌, ◌≤◌, List, [],
 use Rattle.std.proofs.lemmas.Bool.{ne_eqb, eqb-true}
 use Rattle.fib_addr.specs.declared.addr.Addr.{Addr}
 use Rattle.table_model.specs.Entries.{Entries}
-use Rattle.block_pool.specs.Places.{is_out}
+use Rattle.buddy_arena.specs.Places.{is_out}
 use Rattle.poptrie_build.specs.Stands.{blank}
 use Rattle.poptrie_build.specs.declared.node.Node.{Node}
 use Rattle.poptrie_build.proofs.Carry.{Carries}

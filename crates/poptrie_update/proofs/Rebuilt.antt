@@ -4,15 +4,15 @@ use Rattle.std.specs.Prelude.{OnOk, IfOk}
 use Rattle.table_model.specs.declared.family.Family.{Family}
 use Rattle.table_model.specs.Entries.{Entries}
 use Rattle.poptrie_build.specs.Tries.{node_need, leaf_need, IsTooMuch}
-use Rattle.poptrie_copy.specs.Asks.{RunsOut}
-use Rattle.poptrie_copy.specs.declared.blocks.Refusal.{Refusal}
-use Rattle.poptrie_copy.specs.declared.blocks.Refusal.TheVariants as refusal
+use Rattle.path_copying.specs.Asks.{RunsOut}
+use Rattle.path_copying.specs.declared.blocks.Refusal.{Refusal}
+use Rattle.path_copying.specs.declared.blocks.Refusal.TheVariants as refusal
 use Rattle.poptrie_set.specs.Lives.{Seen, HasSizesOf}
 use Rattle.poptrie_set.specs.Prepares.{AsksRunOut, asks_of}
 use Rattle.poptrie_set.specs.declared.reasons.NotReady.{NotReady as NotBeside}
 use Rattle.poptrie_set.specs.declared.reasons.NotReady.TheVariants as beside
 use Rattle.poptrie_set.specs.declared.trie_set.Oldest.{Oldest}
-use Rattle.poptrie_update.specs.Lives.{Living, made_by, made_of}
+use Rattle.poptrie_update.specs.Lives.{Living, stores_made, made_of}
 use Rattle.poptrie_update.specs.Pendings.{IsTokenOf, IsTokenBy, IsSelectorOf}
 use Rattle.poptrie_update.specs.Prepares.{RunsShort, IsNotBeside, refusal_in}
 use Rattle.poptrie_update.specs.declared.live.Other.{Other}
@@ -39,7 +39,7 @@ if_ok_all (Err e) P Q a b p f = tt
 pub selector_token : (p : Pending) (l : Living) → p.stores ≡ stores.Selector false → l.state ≡ other.Built → IsTokenOf p l × (made_of l ≡ 0)
 selector_token p l e b = (
   subst (λ (x : Stores). IsTokenBy x l) (sym e) (subst (λ (x : Other). IsSelectorOf false x) (sym b) refl),
-  ap (λ (x : Other). made_by x l.selected.made) b,
+  ap (λ (x : Other). stores_made x l.selected.made) b,
 )
 
 -- ---- what is told of a set of the same sizes in which the same places are free

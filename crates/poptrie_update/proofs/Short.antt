@@ -8,9 +8,9 @@ use Rattle.table_model.specs.Bits.{bits_of}
 use Rattle.fib_addr.specs.Answers.{part, all_answers}
 use Rattle.poptrie_build.specs.Strides.{strides}
 use Rattle.poptrie_build.specs.Tries.{rest}
-use Rattle.poptrie_copy.specs.Asks.{Ask, Frees, RunsOut}
-use Rattle.poptrie_copy.specs.declared.blocks.Refusal.TheVariants as refusal
-use Rattle.poptrie_copy.proofs.Retiring.{node_places, leaf_places, slots_places}
+use Rattle.path_copying.specs.Asks.{Ask, Frees, RunsOut}
+use Rattle.path_copying.specs.declared.blocks.Refusal.TheVariants as refusal
+use Rattle.path_copying.proofs.Retiring.{node_places, leaf_places, slots_places}
 use Rattle.poptrie_set.specs.Lives.{Seen}
 use Rattle.poptrie_set.specs.Prepares.{AsksRunOut, asks_of}
 use Rattle.poptrie_set.specs.declared.reasons.NotReady.{NotReady as NotBeside}

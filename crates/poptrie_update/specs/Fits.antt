@@ -1,7 +1,7 @@
 -- What the open lookups may read.
 use Rattle.std.specs.Prelude.{◌≡◌, ℕ, ◌<◌, ◌≤◌, List, [], Bool, true, false, nat_eq}
 use Rattle.std.specs.List.{AllByRecursion}
-use Rattle.block_pool.specs.Places.{is_out}
+use Rattle.buddy_arena.specs.Places.{is_out}
 use Rattle.poptrie_set.specs.Lives.{Seen}
 use Rattle.poptrie_set.specs.Fits.{Reader, ReadsIn}
 use Rattle.poptrie_set.specs.Reading.{ReadsOn}

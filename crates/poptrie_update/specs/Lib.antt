@@ -3,3 +3,5 @@ pub mod Pendings
 pub mod Fits
 pub mod Reads
 pub mod Prepares
+pub mod Cursors
+pub mod Stages

@@ -14,8 +14,8 @@ pub record Living : Type 0 where
   pub number : ℕ
 
 -- the set of a number
-abbrev pub set_of : Living → ℕ → Seen
-set_of l n = cond (nat_eq n l.number) l.selected l.other
+abbrev pub numbered_set : Living → ℕ → Seen
+numbered_set l n = cond (nat_eq n l.number) l.selected l.other
 
 -- a trie of the same family, direct bits and arenas
 abbrev pub HasShapeOf : Living → Living → Type 0
@@ -33,14 +33,14 @@ abbrev pub is_pending : Living → Bool
 is_pending l = cond (is_selecting l.state) true l.selected.pending
 
 -- how many of its stores were made: words, or the one of the selector
-abbrev pub made_by : Other → ℕ → ℕ
-made_by other.Free words = words
-made_by (other.Retired end) words = words
-made_by other.Built words = 0
-made_by other.Replaced words = 1
+abbrev pub stores_made : Other → ℕ → ℕ
+stores_made other.Free words = words
+stores_made (other.Retired end) words = words
+stores_made other.Built words = 0
+stores_made other.Replaced words = 1
 
 abbrev pub made_of : Living → ℕ
-made_of l = made_by l.state l.selected.made
+made_of l = stores_made l.state l.selected.made
 
 -- how many of its stores are left
 abbrev pub left_by : Other → ℕ → ℕ
@@ -111,7 +111,7 @@ Holds (other.Retired end) s o = end ≤ s.time
 Holds other.Built s o = (s.pending ≡ false) × HasNoneRetired o
 Holds other.Replaced s o = s.pending ≡ false
 
-pub record IsPair (s o : Seen) (state : Other) (number : ℕ) : Type 0 where
+pub record IsSetPair (s o : Seen) (state : Other) (number : ℕ) : Type 0 where
   pub sizes : HasSizesOf s o
   pub times : o.time ≡ s.time
   pub quiet : o.pending ≡ false

@@ -3,12 +3,12 @@ use Rattle.std.specs.Prelude.{◌≡◌, ℕ, ◌^◌, ◌<◌, ◌≤◌, zero,
 use Rattle.table_model.specs.Entries.{Entries}
 use Rattle.buddy_arena.specs.Space.{Space}
 use Rattle.buddy_arena.specs.declared.arena.Full.{Full}
-use Rattle.block_pool.specs.Blocks.{Gives}
+use Rattle.buddy_arena.specs.Blocks.{GivesBack}
 use Rattle.poptrie_build.specs.Tries.{node_need, leaf_need}
 use Rattle.poptrie_build.specs.declared.node.Node.{Node}
-use Rattle.poptrie_copy.specs.Asks.{Runs, RunsOut}
-use Rattle.poptrie_copy.specs.declared.blocks.Refusal.{Refusal}
-use Rattle.poptrie_copy.specs.declared.blocks.Refusal.TheVariants as refusal
+use Rattle.path_copying.specs.Asks.{MeetsInTurn, RunsOut}
+use Rattle.path_copying.specs.declared.blocks.Refusal.{Refusal}
+use Rattle.path_copying.specs.declared.blocks.Refusal.TheVariants as refusal
 use Rattle.poptrie_set.specs.Lives.{Seen, IsTooMuchFor}
 use Rattle.poptrie_set.specs.Prepares.{StoresJust, asks_of, GaveBack, AsksRun}
 use Rattle.poptrie_set.specs.declared.trie_set.Oldest.{Oldest}
@@ -64,7 +64,7 @@ pub record RunsShort (s : Seen) (L M : Entries) (nodes : Space Node) (leaves : S
 
 -- words are stored where each ask is met in its turn, and the selector where one is refused and the other set is free
 abbrev pub IsMadeIn : ℕ → Stores → Living → Living → Entries → Entries → Space Node → Space ℕ → Type 0
-IsMadeIn since (stores.Words w) old new L M nodes leaves = (new.state ≡ freed since old.state) × Runs nodes.order leaves.order (asks_of old.selected.family old.selected.direct_bits L M) (nodes.free, leaves.free) (new.selected.nodes.space.free, new.selected.leaves.space.free)
+IsMadeIn since (stores.Words w) old new L M nodes leaves = (new.state ≡ freed since old.state) × MeetsInTurn nodes.order leaves.order (asks_of old.selected.family old.selected.direct_bits L M) (nodes.free, leaves.free) (new.selected.nodes.space.free, new.selected.leaves.space.free)
 IsMadeIn since (stores.Selector stored) old new L M nodes leaves = IsFreeBy since old.state × ((first : Refusal) × RunsShort old.selected L M nodes leaves first)
 
 -- the same, once what was retired by this time was given back
@@ -88,10 +88,10 @@ IsPinned who old L M need cursor arena e =
     × ((nodes : Space Node) × (leaves : Space ℕ) × GaveBack since old.selected nodes leaves × RunsShort old.selected L M nodes leaves (refusal_in arena e))
 
 -- why an update isn't made ready
-abbrev pub IsRefused : Oldest → NotReady → Living → Entries → Entries → Type 0
-IsRefused who why.Memory old L M = Unit {0}
-IsRefused who (why.TooMuch t) old L M = IsTooMuchFor old.selected M t
-IsRefused who (why.Pinned need cursor arena largest) old L M = (e : Full) × (e.largest ≡ largest) × IsPinned who old L M need cursor arena e
+abbrev pub IsNotReady : Oldest → NotReady → Living → Entries → Entries → Type 0
+IsNotReady who why.Memory old L M = Unit {0}
+IsNotReady who (why.TooMuch t) old L M = IsTooMuchFor old.selected M t
+IsNotReady who (why.Pinned need cursor arena largest) old L M = (e : Full) × (e.largest ≡ largest) × IsPinned who old L M need cursor arena e
 
 -- what was retired by this time was given back, and else the selected set's words and free places are as they were, and the other
 -- set too
@@ -104,8 +104,8 @@ IsUndone since old new =
 -- what the update took was given back, in the selected set or as the other set, and else all is as it was
 pub record TakesBack (s t : Seen) : Type 0 where
   pub words : t.words ≡ s.words
-  pub nodes : Gives s.nodes.taken s.nodes.space t.nodes.space
-  pub leaves : Gives s.leaves.taken s.leaves.space t.leaves.space
+  pub nodes : GivesBack s.nodes.taken s.nodes.space t.nodes.space
+  pub leaves : GivesBack s.leaves.taken s.leaves.space t.leaves.space
   pub nodes_retired : t.nodes.retired ≡ s.nodes.retired
   pub leaves_retired : t.leaves.retired ≡ s.leaves.retired
 
@@ -129,8 +129,8 @@ IsBeside (stores.Words w) old new L M = (new.state ≡ old.state) × AsksRun old
 IsBeside (stores.Selector stored) old new L M = (old.state ≡ other.Free) × IsShort old.selected L M
 
 -- the other set is retired, and the oldest lookup may be in it
-abbrev pub IsHeld : Oldest → Other → ℕ → Type 0
-IsHeld who state cursor = (since : ℕ) × (end : ℕ) × (who ≡ oldest.Started cursor since) × (state ≡ other.Retired end)
+abbrev pub HoldsRetired : Oldest → Other → ℕ → Type 0
+HoldsRetired who state cursor = (since : ℕ) × (end : ℕ) × (who ≡ oldest.Started cursor since) × (state ≡ other.Retired end)
 
 abbrev pub IsNotBeside : Oldest → NotReady → Living → Entries → Entries → Type 0
 IsNotBeside who why.Memory old L M = Unit {0}
@@ -138,7 +138,7 @@ IsNotBeside who (why.TooMuch t) old L M = IsTooMuchFor old.selected M t
 IsNotBeside who (why.Pinned need cursor arena largest) old L M =
     (e : Full)
     × (e.largest ≡ largest)
-    × IsHeld who old.state cursor
+    × HoldsRetired who old.state cursor
     × (arena ≤ 1)
     × (need ≡ 2 ^ e.order)
     × RunsShort old.selected L M old.selected.nodes.space old.selected.leaves.space (refusal_in arena e)

@@ -6,7 +6,7 @@ use Rattle.table_model.specs.Entries.{Entries, match_in}
 use Rattle.poptrie_build.specs.Tries.{visits_of}
 use Rattle.poptrie_build.specs.declared.node.Node.{Node}
 use Rattle.poptrie_set.specs.Rooms.{safe}
-use Rattle.poptrie_set.specs.Lives.{Seen, covers}
+use Rattle.poptrie_set.specs.Lives.{Seen, stores_cover}
 use Rattle.poptrie_set.specs.First.{slot_of}
 use Rattle.poptrie_set.specs.Reading.{ReadsOn, key_after}
 use Rattle.poptrie_set.specs.declared.reading.At.{At as Read}
@@ -19,14 +19,14 @@ use Rattle.poptrie_update.specs.declared.live.At.TheVariants as at
 
 -- whether a store that was made covers a slot: the selector covers every slot
 abbrev pub covers_by : Other → Seen → ℕ → Bool
-covers_by other.Free s v = covers (take s.made s.stores) v
-covers_by (other.Retired end) s v = covers (take s.made s.stores) v
+covers_by other.Free s v = stores_cover (take s.made s.stores) v
+covers_by (other.Retired end) s v = stores_cover (take s.made s.stores) v
 covers_by other.Built s v = false
 covers_by other.Replaced s v = true
 
 -- the entries that are published to an address: those after the update where a store that was made covers its slot
-abbrev pub published : Living → Entries → Entries → Addr → Entries
-published l L M a = cond (covers_by l.state l.selected (slot_of l.selected.direct_bits a)) M L
+abbrev pub published_entries : Living → Entries → Entries → Addr → Entries
+published_entries l L M a = cond (covers_by l.state l.selected (slot_of l.selected.direct_bits a)) M L
 
 -- it shows some entries
 abbrev pub IsShowing : Living → Type 0

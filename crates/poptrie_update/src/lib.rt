@@ -8,9 +8,13 @@
 //! So a lookup that pauses between any two steps goes on in the version that it began with. Time is the number of ends so far.
 #![tactic(auto)]
 
+mod cursors;
+mod laws;
 mod live;
 mod pending;
 
+pub use cursors::{Cursors, CursorsFull, NotOpen};
+pub use laws::{nobody_law, prepare_law, step_law};
 pub use live::{At, Live};
 pub use pending::{NotReady, Pending};
 pub use poptrie_set::Oldest;

@@ -55,7 +55,7 @@ pub struct Live {
 }
 
 impl Model for Live {
-    ghost use Rattle.poptrie_update.specs.Lives.{Living, IsPair};
+    ghost use Rattle.poptrie_update.specs.Lives.{Living, IsSetPair};
 
     ghost Value = { Living };
 
@@ -66,7 +66,7 @@ impl Model for Live {
       number = l.number;
     } };
 
-    ghost invariant = { λ l. IsPair l.selected l.other l.state l.number };
+    ghost invariant = { λ l. IsSetPair l.selected l.other l.state l.number };
 }
 
 /// Where a lookup stands that read this in the set of a number.
@@ -98,11 +98,11 @@ impl Live {
     ghost use Rattle.poptrie_set.specs.Reading.{ReadsOn, CanRead, key_after};
     ghost use Rattle.poptrie_set.specs.Prepares.{AgreeOutside, GaveBack, AsksRunOut};
     ghost use Rattle.poptrie_set.specs.Lives.{ShowsIn};
-    ghost use Rattle.poptrie_update.specs.Lives.{Living, Shows, HasShapeOf, is_pending, stores_left, made_of, set_of, Past, IsFree, KeepsStores, freed, retired_at_end};
+    ghost use Rattle.poptrie_update.specs.Lives.{Living, Shows, HasShapeOf, is_pending, stores_left, made_of, numbered_set, Past, IsFree, KeepsStores, freed, retired_at_end};
     ghost use Rattle.poptrie_update.specs.Pendings.{IsTokenOf};
     ghost use Rattle.poptrie_update.specs.Fits.{Open, Fits, IsOldest};
-    ghost use Rattle.poptrie_update.specs.Reads.{Starts, published, Leads};
-    ghost use Rattle.poptrie_update.specs.Prepares.{IsAtRest, NoneRetired, StoresChanges, IsMade, IsRefused, IsUndone, IsCancelled, IsBeside, IsNotBeside, IsShort};
+    ghost use Rattle.poptrie_update.specs.Reads.{Starts, published_entries, Leads};
+    ghost use Rattle.poptrie_update.specs.Prepares.{IsAtRest, NoneRetired, StoresChanges, IsMade, IsNotReady, IsUndone, IsCancelled, IsBeside, IsNotBeside, IsShort};
     ghost use Rattle.poptrie_set.specs.declared.trie_set.Oldest.TheVariants as Oldest;
     ghost use Rattle.poptrie_update.specs.declared.live.Other.TheVariants as other;
     ghost use Rattle.poptrie_update.specs.declared.pending.Stores.TheVariants as stores;
@@ -255,7 +255,7 @@ impl Live {
             → IsMade (until oldest self.old.selected.time) p self.old self.new L M) }
         ensures refused { IfErr result (λ e. (L M : Entries) → Shows self.old L L
             → R.answers region.now ≡ all_answers self.old.selected.family M
-            → AgreeOutside (prefix_as prefix.now) L M → IsRefused oldest e self.old L M) }
+            → AgreeOutside (prefix_as prefix.now) L M → IsNotReady oldest e self.old L M) }
         ensures undone { OnErr result (IsUndone (until oldest self.old.selected.time) self.old
             self.new) }
         ensures still { OnErr result ((L M : Entries) → Shows self.old L M
@@ -378,7 +378,7 @@ impl Live {
     pub fn first(&self, addr: &Addr) -> At
         requires family { addr.now.family ≡ self.now.selected.family }
         ensures { (L M : Entries) → Shows self.now L M
-            → Starts result self.now (published self.now L M addr.now) addr.now }
+            → Starts result self.now (published_entries self.now L M addr.now) addr.now }
     {
         in_set(self.selected.first(addr), self.number)
     }
@@ -386,15 +386,15 @@ impl Live {
     /// Each further read: visits one node of the set of this number.
     pub fn next(&self, set: u8, node: u32, stride: u8, addr: &Addr) -> At
         requires stride { self.now.selected.direct_bits + 6 * stride < 128 }
-        requires can { CanRead (set_of self.now set).nodes.space.cells
-            (set_of self.now set).leaves.space.cells node
+        requires can { CanRead (numbered_set self.now set).nodes.space.cells
+            (numbered_set self.now set).leaves.space.cells node
             (key_after self.now.selected.direct_bits stride addr.now) }
         ensures { (left h : ℕ) (N L : ℕ → Bool)
-            → ReadsOn left (set_of self.now set).nodes.space.cells N
-            (set_of self.now set).leaves.space.cells L node
+            → ReadsOn left (numbered_set self.now set).nodes.space.cells N
+            (numbered_set self.now set).leaves.space.cells L node
             (key_after self.now.selected.direct_bits stride addr.now) h
-            → Leads result left set (set_of self.now set).nodes.space.cells N
-            (set_of self.now set).leaves.space.cells L self.now.selected.direct_bits stride
+            → Leads result left set (numbered_set self.now set).nodes.space.cells N
+            (numbered_set self.now set).leaves.space.cells L self.now.selected.direct_bits stride
             addr.now h }
     {
         let read = if set == self.number {
@@ -410,9 +410,9 @@ impl Live {
     pub fn lookup<L: Ledger>(&self, addr: &Addr, steps: &mut Steps<L>) -> Found
         requires family { addr.now.family ≡ self.now.selected.family }
         ensures hop { (E F : Entries) → Shows self.now E F
-            → result.hop.0 ≡ match_in (published self.now E F addr.now) (addr_as addr.now) }
+            → result.hop.0 ≡ match_in (published_entries self.now E F addr.now) (addr_as addr.now) }
         ensures visits { (E F : Entries) → Shows self.now E F → result.visits
-            ≡ visits_of self.now.selected.direct_bits (published self.now E F addr.now)
+            ≡ visits_of self.now.selected.direct_bits (published_entries self.now E F addr.now)
             (addr_as addr.now) }
         ensures steps { steps.new ≡ steps.old + result.visits }
     {

@@ -1,13 +1,12 @@
 //! The counts of an input.
 
 ghost use Rattle.std.specs.Prelude.{◌≡◌, ◌<◌, length, IfErr, IfOk, IfSome};
-ghost use Rattle.whole_input.specs.Whole.{FaultRose};
-ghost use Rattle.read_count.specs.Counted.{IsCounted, IsRefused};
+ghost use Rattle.mrt_read.specs.Whole.{FaultRose};
+ghost use Rattle.read_count.specs.Counted.{CountsOctets, IsUncounted};
 
 use fib_io::{Inputs, piece_room, read_piece};
-use mrt_read::Reader;
+use mrt_read::{Reader, WholeError};
 use std::alloc::Global;
-use whole_input::WholeError;
 
 /// What was counted of an input.
 #[derive(Clone, Copy, Debug, PartialEq, Eq)]
@@ -31,9 +30,9 @@ fn count_through<I: Inputs>(
 ) -> Result<Counts, WholeError>
     requires { 0 < length room.old }
     ensures counts { IfOk result (λ counts. IfSome (I.content inputs.old name.now)
-        (IsCounted counts)) }
+        (CountsOctets counts)) }
     ensures refused { IfErr result (λ error. IfSome (I.content inputs.old name.now)
-        (IsRefused error)) }
+        (IsUncounted error)) }
     ensures same { I.content inputs.new ≡ I.content inputs.old }
     ensures cause { FaultRose (I.faults inputs.old) (I.faults inputs.new) name.now result }
 {
@@ -64,9 +63,9 @@ fn count_through<I: Inputs>(
 /// events and the peer table.
 pub fn count<I: Inputs>(alloc: Global, inputs: &mut I, name: &str) -> Result<Counts, WholeError>
     ensures counts { IfOk result (λ counts. IfSome (I.content inputs.old name.now)
-        (IsCounted counts)) }
+        (CountsOctets counts)) }
     ensures refused { IfErr result (λ error. IfSome (I.content inputs.old name.now)
-        (IsRefused error)) }
+        (IsUncounted error)) }
     ensures same { I.content inputs.new ≡ I.content inputs.old }
     ensures cause { FaultRose (I.faults inputs.old) (I.faults inputs.new) name.now result }
 {

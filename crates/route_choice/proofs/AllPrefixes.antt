@@ -13,10 +13,10 @@ use Rattle.std.proofs.lemmas.List.Sorted.{list_any-IsPermutation}
 use Rattle.fib_addr.specs.Order.{code_cmp}
 use Rattle.fib_addr.specs.contracts.prefix.PrefixPartialEq.TheImpl as prefix_test
 use Rattle.fib_addr.specs.declared.prefix.Prefix as code
-use Rattle.flat_base.specs.declared.rows.Row.{Row}
-use Rattle.flat_base.specs.declared.keys.Rank.{Rank}
-use Rattle.flat_base.proofs.Equals.{prefix_eq}
-use Rattle.flat_base.proofs.Orders.{is_equal, prefix_total}
+use Rattle.adj_rib_in.specs.declared.rows.Row.{Row}
+use Rattle.adj_rib_in.specs.declared.keys.Rank.{Rank}
+use Rattle.adj_rib_in.proofs.Equals.{prefix_eq}
+use Rattle.adj_rib_in.proofs.Orders.{is_equal, prefix_total}
 use Rattle.route_choice.specs.Walks.{has_prefix, row_prefixes, rank_prefixes, HasRows, HasRanks}
 use Rattle.route_choice.proofs.AllRoutes.{first_rows, no_rows, prefix_or, one_row_more, past_rows, all_rows}
 

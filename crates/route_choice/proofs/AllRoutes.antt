@@ -20,22 +20,22 @@ use Rattle.route_model.specs.Choice.{Place, Candidates, IsPlace, IsHeld, chosen_
 use Rattle.route_model.proofs.Keyed.{same_entries, all_filter}
 use Rattle.route_model.proofs.Places.{prefix_key}
 use Rattle.route_model.proofs.Choices.{routes_sorted, chosen_for-none}
-use Rattle.flat_base.specs.declared.keys.Seat.{Seat}
-use Rattle.flat_base.specs.declared.keys.Rank.{Rank}
-use Rattle.flat_base.specs.declared.keys.Offer.{Offer}
-use Rattle.flat_base.specs.declared.keys.Candidate.{Candidate}
-use Rattle.flat_base.specs.declared.rows.Row.{Row}
-use Rattle.flat_base.specs.declared.flat.Flat.{Flat}
-use Rattle.flat_base.specs.Orders.{seat_cmp, rank_cmp}
-use Rattle.flat_base.specs.Seats.{Seats, held_in, offer_at, rank_at}
-use Rattle.flat_base.specs.Flat.{IsFlat, IsRow, flat_seats, both}
-use Rattle.flat_base.specs.Bests.{IsBest}
-use Rattle.flat_base.proofs.Orders.{prefix_same, is_prefix, is_equal, prefix_total}
-use Rattle.flat_base.proofs.Views.{are_candidates}
-use Rattle.flat_base.proofs.Holds.{code_of, HasCode}
-use Rattle.flat_base.proofs.Parts.{offer_over}
-use Rattle.flat_base.proofs.Flats.{seat_slot, seat_parts, same_parts}
-use Rattle.route_choice.specs.Seats.{IsIndexed}
+use Rattle.adj_rib_in.specs.declared.keys.PathKey.{PathKey}
+use Rattle.adj_rib_in.specs.declared.keys.Rank.{Rank}
+use Rattle.adj_rib_in.specs.declared.keys.PathAttrs.{PathAttrs}
+use Rattle.adj_rib_in.specs.declared.keys.Candidate.{Candidate}
+use Rattle.adj_rib_in.specs.declared.rows.Row.{Row}
+use Rattle.adj_rib_in.specs.declared.flat.Flat.{Flat}
+use Rattle.adj_rib_in.specs.Orders.{key_cmp, rank_cmp}
+use Rattle.adj_rib_in.specs.Paths.{Paths, held_in, attrs_at, rank_at}
+use Rattle.adj_rib_in.specs.Flat.{IsFlat, IsRowPlace, flat_paths, paths_over}
+use Rattle.adj_rib_in.specs.Bests.{IsBestHeld}
+use Rattle.adj_rib_in.proofs.Orders.{prefix_same, is_prefix, is_equal, prefix_total}
+use Rattle.adj_rib_in.proofs.Views.{are_candidates}
+use Rattle.adj_rib_in.proofs.Holds.{code_of, HasCode}
+use Rattle.adj_rib_in.proofs.Parts.{attrs_over}
+use Rattle.adj_rib_in.proofs.Flats.{key_slot, key_parts, same_parts}
+use Rattle.route_choice.specs.Paths.{IsIndexed}
 use Rattle.route_choice.specs.Walks.{route_or, routes_at, has_prefix, HasRows, HasRanks, row_prefixes}
 use Rattle.route_choice.proofs.Best.{same_rank, any_element}
 use Rattle.route_choice.proofs.Choose.{chosen_best}
@@ -46,66 +46,66 @@ Routes = List (Prefix × Address)
 
 -- ---- routes one after another
 
-pub routes_more : (seats : Seats) (ps qs : List code.Prefix) → routes_at seats (ps ++ qs) ≡ routes_at seats ps ++ routes_at seats qs
+pub routes_more : (paths : Paths) (ps qs : List code.Prefix) → routes_at paths (ps ++ qs) ≡ routes_at paths ps ++ routes_at paths qs
 unfolding routes_at
-routes_more seats [] qs = refl
-routes_more seats (p ∷ ps) qs = by_hop (chosen_for (held_in seats) (prefix_as p)) (routes_more seats ps qs)
+routes_more paths [] qs = refl
+routes_more paths (p ∷ ps) qs = by_hop (chosen_for (held_in paths) (prefix_as p)) (routes_more paths ps qs)
   where
-    by_hop : (o : Option Address) → routes_at seats (ps ++ qs) ≡ routes_at seats ps ++ routes_at seats qs → route_or (prefix_as p) o (routes_at seats (ps ++ qs)) ≡ route_or (prefix_as p) o (routes_at seats ps) ++ routes_at seats qs
+    by_hop : (o : Option Address) → routes_at paths (ps ++ qs) ≡ routes_at paths ps ++ routes_at paths qs → route_or (prefix_as p) o (routes_at paths (ps ++ qs)) ≡ route_or (prefix_as p) o (routes_at paths ps) ++ routes_at paths qs
     by_hop None ih = ih
     by_hop (Some h) ih = ap (λ xs. (prefix_as p, h) ∷ xs) ih
 
 -- the route of one prefix
-pub one_route : (seats : Seats) (p : code.Prefix) (o : Option Address) → o ≡ chosen_for (held_in seats) (prefix_as p) → routes_at seats (p ∷ []) ≡ route_or (prefix_as p) o []
+pub one_route : (paths : Paths) (p : code.Prefix) (o : Option Address) → o ≡ chosen_for (held_in paths) (prefix_as p) → routes_at paths (p ∷ []) ≡ route_or (prefix_as p) o []
 unfolding routes_at
-one_route seats p o e = ap (λ x. route_or (prefix_as p) x []) (sym e)
+one_route paths p o e = ap (λ x. route_or (prefix_as p) x []) (sym e)
 
 map_more : (xs : List (code.Prefix × Addr)) (x : code.Prefix × Addr) → map route_as (xs ++ x ∷ []) ≡ map route_as xs ++ route_as x ∷ []
 map_more [] x = refl
 map_more (y ∷ ys) x = ap (λ zs. route_as y ∷ zs) (map_more ys x)
 
-pub route_pushed : (seats : Seats) (p : code.Prefix) (best : Option Candidate) (c : Candidate) (hop : Addr) (old new : List (code.Prefix × Addr)) → IsBest seats None p best → best ≡ Some c → hop ≡ c.offer.hop → new ≡ old ++ (p, hop) ∷ [] → map route_as new ≡ map route_as old ++ routes_at seats (p ∷ [])
-route_pushed seats p best c hop old new b e h n =
-    let x : Some (addr_as c.offer.hop) ≡ chosen_for (held_in seats) (prefix_as p) = chosen_best seats p (Some c) (subst (IsBest seats None p) e b) in
-    ap (map route_as) n ∙ (map_more old (p, hop) ∙ (ap (λ a. map route_as old ++ (prefix_as p, addr_as a) ∷ []) h ∙ ap (λ xs. map route_as old ++ xs) (sym (one_route seats p (Some (addr_as c.offer.hop)) x))))
+pub route_pushed : (paths : Paths) (p : code.Prefix) (best : Option Candidate) (c : Candidate) (hop : Addr) (old new : List (code.Prefix × Addr)) → IsBestHeld paths None p best → best ≡ Some c → hop ≡ c.attrs.hop → new ≡ old ++ (p, hop) ∷ [] → map route_as new ≡ map route_as old ++ routes_at paths (p ∷ [])
+route_pushed paths p best c hop old new b e h n =
+    let x : Some (addr_as c.attrs.hop) ≡ chosen_for (held_in paths) (prefix_as p) = chosen_best paths p (Some c) (subst (IsBestHeld paths None p) e b) in
+    ap (map route_as) n ∙ (map_more old (p, hop) ∙ (ap (λ a. map route_as old ++ (prefix_as p, addr_as a) ∷ []) h ∙ ap (λ xs. map route_as old ++ xs) (sym (one_route paths p (Some (addr_as c.attrs.hop)) x))))
 
-pub no_route : (seats : Seats) (p : code.Prefix) (best : Option Candidate) (old : List (code.Prefix × Addr)) → IsBest seats None p best → best ≡ None → map route_as old ≡ map route_as old ++ routes_at seats (p ∷ [])
-no_route seats p best old b e =
-    let x : None ≡ chosen_for (held_in seats) (prefix_as p) = chosen_best seats p None (subst (IsBest seats None p) e b) in
-    sym (ap (λ xs. map route_as old ++ xs) (one_route seats p None x) ∙ append-nil (map route_as old))
+pub no_route : (paths : Paths) (p : code.Prefix) (best : Option Candidate) (old : List (code.Prefix × Addr)) → IsBestHeld paths None p best → best ≡ None → map route_as old ≡ map route_as old ++ routes_at paths (p ∷ [])
+no_route paths p best old b e =
+    let x : None ≡ chosen_for (held_in paths) (prefix_as p) = chosen_best paths p None (subst (IsBestHeld paths None p) e b) in
+    sym (ap (λ xs. map route_as old ++ xs) (one_route paths p None x) ∙ append-nil (map route_as old))
 
 -- ---- all of them
 
 abbrev among : Prefix → List code.Prefix → Bool
 among at ps = list_any (λ q. same_prefix at (prefix_as q)) ps
 
-at_prefix : (seats : Seats) (at : Prefix) (ps : List code.Prefix) → lookup (same_prefix at) (routes_at seats ps) ≡ cond (among at ps) (chosen_for (held_in seats) at) None
+at_prefix : (paths : Paths) (at : Prefix) (ps : List code.Prefix) → lookup (same_prefix at) (routes_at paths ps) ≡ cond (among at ps) (chosen_for (held_in paths) at) None
 unfolding routes_at
-at_prefix seats at [] = refl
-at_prefix seats at (p ∷ ps) = by_test (same_prefix at (prefix_as p)) refl (chosen_for (held_in seats) (prefix_as p)) refl (at_prefix seats at ps)
+at_prefix paths at [] = refl
+at_prefix paths at (p ∷ ps) = by_test (same_prefix at (prefix_as p)) refl (chosen_for (held_in paths) (prefix_as p)) refl (at_prefix paths at ps)
   where
     rest : Routes
-    rest = routes_at seats ps
+    rest = routes_at paths ps
 
     or_none : (b : Bool) (o : Option Address) → o ≡ None → cond b o None ≡ None
     or_none true o e = e
     or_none false o e = refl
 
-    by_test : (t : Bool) → same_prefix at (prefix_as p) ≡ t → (o : Option Address) → chosen_for (held_in seats) (prefix_as p) ≡ o → lookup (same_prefix at) rest ≡ cond (among at ps) (chosen_for (held_in seats) at) None
-        → lookup (same_prefix at) (route_or (prefix_as p) o rest) ≡ cond (t || among at ps) (chosen_for (held_in seats) at) None
-    by_test true t (Some h) e ih = ap (λ b. cond b (Some h) (lookup (same_prefix at) rest)) t ∙ (sym e ∙ ap (chosen_for (held_in seats)) (sym (same_prefix_is at (prefix_as p) t)))
+    by_test : (t : Bool) → same_prefix at (prefix_as p) ≡ t → (o : Option Address) → chosen_for (held_in paths) (prefix_as p) ≡ o → lookup (same_prefix at) rest ≡ cond (among at ps) (chosen_for (held_in paths) at) None
+        → lookup (same_prefix at) (route_or (prefix_as p) o rest) ≡ cond (t || among at ps) (chosen_for (held_in paths) at) None
+    by_test true t (Some h) e ih = ap (λ b. cond b (Some h) (lookup (same_prefix at) rest)) t ∙ (sym e ∙ ap (chosen_for (held_in paths)) (sym (same_prefix_is at (prefix_as p) t)))
     by_test true t None e ih =
-        let x : chosen_for (held_in seats) at ≡ None = ap (chosen_for (held_in seats)) (same_prefix_is at (prefix_as p) t) ∙ e in
-        ih ∙ (or_none (among at ps) (chosen_for (held_in seats) at) x ∙ sym x)
+        let x : chosen_for (held_in paths) at ≡ None = ap (chosen_for (held_in paths)) (same_prefix_is at (prefix_as p) t) ∙ e in
+        ih ∙ (or_none (among at ps) (chosen_for (held_in paths) at) x ∙ sym x)
     by_test false t (Some h) e ih = ap (λ b. cond b (Some h) (lookup (same_prefix at) rest)) t ∙ ih
     by_test false t None e ih = ih
 
-all_below : (seats : Seats) (P : Prefix → Type 0) (ps : List code.Prefix) → AllByRecursion (λ q. P (prefix_as q)) ps → AllByRecursion P (keys_of (routes_at seats ps))
+all_below : (paths : Paths) (P : Prefix → Type 0) (ps : List code.Prefix) → AllByRecursion (λ q. P (prefix_as q)) ps → AllByRecursion P (keys_of (routes_at paths ps))
 unfolding routes_at
-all_below seats P [] a = tt
-all_below seats P (p ∷ ps) a = by_hop (chosen_for (held_in seats) (prefix_as p)) (all_below seats P ps a.1)
+all_below paths P [] a = tt
+all_below paths P (p ∷ ps) a = by_hop (chosen_for (held_in paths) (prefix_as p)) (all_below paths P ps a.1)
   where
-    by_hop : (o : Option Address) → AllByRecursion P (keys_of (routes_at seats ps)) → AllByRecursion P (keys_of (route_or (prefix_as p) o (routes_at seats ps)))
+    by_hop : (o : Option Address) → AllByRecursion P (keys_of (routes_at paths ps)) → AllByRecursion P (keys_of (route_or (prefix_as p) o (routes_at paths ps)))
     by_hop None ih = ih
     by_hop (Some h) ih = (a.0, ih)
 
@@ -113,14 +113,14 @@ less_as : (p : code.Prefix) (ps : List code.Prefix) → AllByRecursion (λ q. co
 less_as p [] a = tt
 less_as p (q ∷ ps) a = (sym (cmp_is p q) ∙ a.0, less_as p ps a.1)
 
-in_order : (seats : Seats) (ps : List code.Prefix) → IsStrictlySortedBy code_cmp ps → IsStrictlySortedBy prefix_cmp (keys_of (routes_at seats ps))
+in_order : (paths : Paths) (ps : List code.Prefix) → IsStrictlySortedBy code_cmp ps → IsStrictlySortedBy prefix_cmp (keys_of (routes_at paths ps))
 unfolding IsStrictlySortedBy routes_at
-in_order seats [] s = tt
-in_order seats (p ∷ ps) s = by_hop (chosen_for (held_in seats) (prefix_as p)) (in_order seats ps s.1)
+in_order paths [] s = tt
+in_order paths (p ∷ ps) s = by_hop (chosen_for (held_in paths) (prefix_as p)) (in_order paths ps s.1)
   where
-    by_hop : (o : Option Address) → IsStrictlySortedBy prefix_cmp (keys_of (routes_at seats ps)) → IsStrictlySortedBy prefix_cmp (keys_of (route_or (prefix_as p) o (routes_at seats ps)))
+    by_hop : (o : Option Address) → IsStrictlySortedBy prefix_cmp (keys_of (routes_at paths ps)) → IsStrictlySortedBy prefix_cmp (keys_of (route_or (prefix_as p) o (routes_at paths ps)))
     by_hop None ih = ih
-    by_hop (Some h) ih = (all_below seats (λ k. prefix_cmp (prefix_as p) k ≡ Less) ps (less_as p ps s.0), ih)
+    by_hop (Some h) ih = (all_below paths (λ k. prefix_cmp (prefix_as p) k ≡ Less) ps (less_as p ps s.0), ih)
 
 all_prefixes : (ps : List code.Prefix) → AllByRecursion (λ q. IsPrefix (prefix_as q)) ps
 all_prefixes [] = tt
@@ -131,30 +131,30 @@ prefixes_of [] a = tt
 prefixes_of (c ∷ cs) a = (a.0.0, prefixes_of cs a.1)
 
 -- each prefix with a candidate is among these
-abbrev pub Covers : Seats → List code.Prefix → Type 0
-Covers seats ps = (s : Seat) (o : Offer) → offer_at seats s ≡ Some o → has_prefix ps s.prefix ≡ true
+abbrev pub Covers : Paths → List code.Prefix → Type 0
+Covers paths ps = (s : PathKey) (o : PathAttrs) → attrs_at paths s ≡ Some o → has_prefix ps s.prefix ≡ true
 
 among_is : (s : code.Prefix) (ps : List code.Prefix) → has_prefix ps s ≡ among (prefix_as s) ps
 among_is s ps = any_by_test (is_at (code_cmp s)) (λ q. same_prefix (prefix_as s) (prefix_as q)) ps (λ q. prefix_same s q)
 
-pub routes_are : (seats : Seats) (ps : List code.Prefix) → IsStrictlySortedBy code_cmp ps → Covers seats ps → routes_at seats ps ≡ routes_of (held_in seats)
-routes_are seats ps s covers =
-    same_entries prefix_key (routes_at seats ps) (routes_of held) (in_order seats ps s) (routes_sorted held (are_candidates seats)) (all_below seats IsPrefix ps (all_prefixes ps)) (prefixes_of (chosen_in held) (all_filter (is_chosen held) IsPlace held (are_candidates seats).0))
-    (λ at. at_prefix seats at ps ∙ by_any at (among at ps) refl)
+pub routes_are : (paths : Paths) (ps : List code.Prefix) → IsStrictlySortedBy code_cmp ps → Covers paths ps → routes_at paths ps ≡ routes_of (held_in paths)
+routes_are paths ps s covers =
+    same_entries prefix_key (routes_at paths ps) (routes_of held) (in_order paths ps s) (routes_sorted held (are_candidates paths)) (all_below paths IsPrefix ps (all_prefixes ps)) (prefixes_of (chosen_in held) (all_filter (is_chosen held) IsPlace held (are_candidates paths).0))
+    (λ at. at_prefix paths at ps ∙ by_any at (among at ps) refl)
   where
     held : Candidates
-    held = held_in seats
+    held = held_in paths
 
-    there : (at : Prefix) (d : Place × model.Offer) → IsHeld held d → same_prefix at d.0.prefix ≡ true → among at ps ≡ true
+    there : (at : Prefix) (d : Place × model.PathAttrs) → IsHeld held d → same_prefix at d.0.prefix ≡ true → among at ps ≡ true
     there at d h m =
-        let c : HasCode seats d = code_of seats d h in
-        ap (λ q. among q ps) (same_prefix_is at d.0.prefix m ∙ ap (λ (q : Place). q.prefix) (sym c.place)) ∙ (sym (among_is c.seat.prefix ps) ∙ covers c.seat c.offer c.here)
+        let c : HasCode paths d = code_of paths d h in
+        ap (λ q. among q ps) (same_prefix_is at d.0.prefix m ∙ ap (λ (q : Place). q.prefix) (sym c.place)) ∙ (sym (among_is c.key.prefix ps) ∙ covers c.key c.attrs c.here)
 
     by_any : (at : Prefix) (b : Bool) → among at ps ≡ b → cond b (chosen_for held at) None ≡ chosen_for held at
     by_any at true t = refl
-    by_any at false t = sym (chosen_for-none held at (are_candidates seats) (λ d h. by_test d h (same_prefix at d.0.prefix) refl))
+    by_any at false t = sym (chosen_for-none held at (are_candidates paths) (λ d h. by_test d h (same_prefix at d.0.prefix) refl))
       where
-        by_test : (d : Place × model.Offer) → IsHeld held d → (m : Bool) → same_prefix at d.0.prefix ≡ m → m ≡ false
+        by_test : (d : Place × model.PathAttrs) → IsHeld held d → (m : Bool) → same_prefix at d.0.prefix ≡ m → m ≡ false
         by_test d h true m = let x : among at ps ≡ true = there at d h m in absurd cc
         by_test d h false m = refl
 
@@ -163,18 +163,18 @@ routes_are seats ps s covers =
 alike : (ps : List code.Prefix) (p q : code.Prefix) → code_cmp p q ≡ Equal → has_prefix ps p ≡ has_prefix ps q
 alike ps p q e = any_by_test (is_at (code_cmp p)) (is_at (code_cmp q)) ps (λ k. ap is_eq (prefix_total.congr p q k e))
 
-pub covered : (b : Flat) (over : Seats) (ranks : List Rank) (ps : List code.Prefix) → IsIndexed over ranks → HasRows b.rows.items ps → HasRanks ranks ps → Covers (both b over) ps
-covered b over ranks ps i rows has s o e = by_slot (lookup (is_at (seat_cmp s)) (flat_seats b)) refl
+pub covered : (b : Flat) (over : Paths) (ranks : List Rank) (ps : List code.Prefix) → IsIndexed over ranks → HasRows b.rows.items ps → HasRanks ranks ps → Covers (paths_over b over) ps
+covered b over ranks ps i rows has s o e = by_slot (lookup (is_at (key_cmp s)) (flat_paths b)) refl
   where
-    by_slot : (x : Option (Option Offer)) → lookup (is_at (seat_cmp s)) (flat_seats b) ≡ x → has_prefix ps s.prefix ≡ true
+    by_slot : (x : Option (Option PathAttrs)) → lookup (is_at (key_cmp s)) (flat_paths b) ≡ x → has_prefix ps s.prefix ≡ true
     by_slot (Some x) f =
-        let y = seat_slot b.rows.items b.peers.keys b.hops.keys s b.rows.slots x f in
-        let p = seat_parts b.rows.items b.peers.keys y.1 y.2 y.4 in
-        let k : code_cmp s.prefix p.row.prefix ≡ Equal = ap (λ (t : Seat). code_cmp s.prefix t.prefix) p.is ∙ (same_parts s y.2 y.5).prefix in
+        let y = key_slot b.rows.items b.peers.keys b.hops.keys s b.rows.slots x f in
+        let p = key_parts b.rows.items b.peers.keys y.1 y.2 y.4 in
+        let k : code_cmp s.prefix p.row.prefix ≡ Equal = ap (λ (t : PathKey). code_cmp s.prefix t.prefix) p.is ∙ (same_parts s y.2 y.5).prefix in
         alike ps s.prefix p.row.prefix k ∙ rows y.1.row p.row p.row_there
     by_slot None f =
         let own : Rank = rank_at s o.path in
-        let there = i s o (sym (offer_over s (flat_seats b) over f) ∙ e) in
+        let there = i s o (sym (attrs_over s (flat_paths b) over f) ∙ e) in
         let r = any_element (is_at (rank_cmp own)) (λ r. has_prefix ps r.prefix ≡ true) ranks there has in
         alike ps s.prefix r.0.prefix (same_rank own r.0 r.1).prefix ∙ r.2
 
@@ -244,14 +244,14 @@ past_rows (r ∷ rows) (suc n) l = ap (λ xs. r.prefix ∷ xs) (past_rows rows n
 
 -- ---- walks over prefixes and rows
 
-pub prefix_told : (seats : Seats) (old new whole : Routes) (p : code.Prefix) (it rest : List code.Prefix) → it ≡ p ∷ rest → new ≡ old ++ routes_at seats (p ∷ []) → old ++ routes_at seats it ≡ whole → new ++ routes_at seats rest ≡ whole
-prefix_told seats old new whole p it rest i n h =
-    ap (λ xs. xs ++ routes_at seats rest) n
-    ∙ (append_assoc old (routes_at seats (p ∷ [])) (routes_at seats rest) ∙ (ap (λ xs. old ++ xs) (sym (routes_more seats (p ∷ []) rest)) ∙ (ap (λ ps. old ++ routes_at seats ps) (sym i) ∙ h)))
+pub prefix_told : (paths : Paths) (old new whole : Routes) (p : code.Prefix) (it rest : List code.Prefix) → it ≡ p ∷ rest → new ≡ old ++ routes_at paths (p ∷ []) → old ++ routes_at paths it ≡ whole → new ++ routes_at paths rest ≡ whole
+prefix_told paths old new whole p it rest i n h =
+    ap (λ xs. xs ++ routes_at paths rest) n
+    ∙ (append_assoc old (routes_at paths (p ∷ [])) (routes_at paths rest) ∙ (ap (λ xs. old ++ xs) (sym (routes_more paths (p ∷ []) rest)) ∙ (ap (λ ps. old ++ routes_at paths ps) (sym i) ∙ h)))
 
-pub all_told : (seats : Seats) (old whole : Routes) (it : List code.Prefix) → it ≡ [] → old ++ routes_at seats it ≡ whole → old ≡ whole
+pub all_told : (paths : Paths) (old whole : Routes) (it : List code.Prefix) → it ≡ [] → old ++ routes_at paths it ≡ whole → old ≡ whole
 unfolding routes_at
-all_told seats old whole it i h = sym (append-nil old) ∙ (ap (λ ps. old ++ routes_at seats ps) (sym i) ∙ h)
+all_told paths old whole it i h = sym (append-nil old) ∙ (ap (λ ps. old ++ routes_at paths ps) (sym i) ∙ h)
 
 -- a row that isn't there
 pub no_row_here : (rows : List Row) (n : ℕ) → None ≡ prefix_or (slice_get rows n) → n < length rows → ⊥
@@ -260,33 +260,33 @@ no_row_here (r ∷ rows) zero e l = absurd cc
 no_row_here (r ∷ rows) (suc n) e l = no_row_here rows n e (omega (arith, l))
 
 -- the row of a number is that of its prefix
-pub is_row : (rows : List Row) (n : ℕ) (p : code.Prefix) → Some p ≡ prefix_or (slice_get rows n) → IsRow rows p n
+pub is_row : (rows : List Row) (n : ℕ) (p : code.Prefix) → Some p ≡ prefix_or (slice_get rows n) → IsRowPlace rows p n
 is_row rows n p e = by_slot (slice_get rows n) refl e
   where
-    by_slot : (o : Option Row) → slice_get rows n ≡ o → Some p ≡ prefix_or o → IsRow rows p n
+    by_slot : (o : Option Row) → slice_get rows n ≡ o → Some p ≡ prefix_or o → IsRowPlace rows p n
     by_slot None r f = cc
     by_slot (Some row) r f =
         let same : p ≡ row.prefix = cc in
         (row, r, prefix_same p row.prefix ∙ (ap (λ (q : code.Prefix). same_prefix (prefix_as p) (prefix_as q)) (sym same) ∙ same_prefix_itself (prefix_as p)))
 
-pub row_route : (seats : Seats) (rows : List Row) (n : ℕ) (old new : Routes) (p : code.Prefix) → Some p ≡ prefix_or (slice_get rows n) → new ≡ old ++ routes_at seats (p ∷ []) → old ≡ routes_at seats (first_rows n rows) → new ≡ routes_at seats (first_rows (n + 1) rows)
-row_route seats rows n old new p e h told =
-    h ∙ (ap (λ xs. xs ++ routes_at seats (p ∷ [])) told ∙ (sym (routes_more seats (first_rows n rows) (p ∷ [])) ∙ ap (routes_at seats) (sym (one_row_more rows n p (slice_get rows n) refl e))))
+pub row_route : (paths : Paths) (rows : List Row) (n : ℕ) (old new : Routes) (p : code.Prefix) → Some p ≡ prefix_or (slice_get rows n) → new ≡ old ++ routes_at paths (p ∷ []) → old ≡ routes_at paths (first_rows n rows) → new ≡ routes_at paths (first_rows (n + 1) rows)
+row_route paths rows n old new p e h told =
+    h ∙ (ap (λ xs. xs ++ routes_at paths (p ∷ [])) told ∙ (sym (routes_more paths (first_rows n rows) (p ∷ [])) ∙ ap (routes_at paths) (sym (one_row_more rows n p (slice_get rows n) refl e))))
 
-pub rows_start : (seats : Seats) (rows : List Row) (routes : List (code.Prefix × Addr)) → routes ≡ [] → map route_as routes ≡ routes_at seats (first_rows 0 rows)
+pub rows_start : (paths : Paths) (rows : List Row) (routes : List (code.Prefix × Addr)) → routes ≡ [] → map route_as routes ≡ routes_at paths (first_rows 0 rows)
 unfolding routes_at first_rows
-rows_start seats rows routes e = ap (map route_as) e
+rows_start paths rows routes e = ap (map route_as) e
 
-pub rows_end : (seats : Seats) (rows : List Row) (n : ℕ) (routes : Routes) → length rows ≤ n → routes ≡ routes_at seats (first_rows n rows) → routes ≡ routes_at seats (row_prefixes rows)
-rows_end seats rows n routes l h = h ∙ ap (routes_at seats) (past_rows rows n l)
+pub rows_end : (paths : Paths) (rows : List Row) (n : ℕ) (routes : Routes) → length rows ≤ n → routes ≡ routes_at paths (first_rows n rows) → routes ≡ routes_at paths (row_prefixes rows)
+rows_end paths rows n routes l h = h ∙ ap (routes_at paths) (past_rows rows n l)
 
 -- ---- both ways to all routes
 
-pub by_rows : (b : Flat) (over : Seats) (ranks : List Rank) (routes : Routes) → IsFlat b → IsIndexed over ranks → ranks ≡ [] → routes ≡ routes_at (both b over) (row_prefixes b.rows.items) → routes ≡ routes_of (held_in (both b over))
-by_rows b over ranks routes f i e h = h ∙ routes_are (both b over) (row_prefixes b.rows.items) (rows_sorted b.rows.items f.ordered) (covered b over ranks (row_prefixes b.rows.items) i (all_rows b.rows.items) (subst (λ rs. HasRanks rs (row_prefixes b.rows.items)) (sym e) tt))
+pub by_rows : (b : Flat) (over : Paths) (ranks : List Rank) (routes : Routes) → IsFlat b → IsIndexed over ranks → ranks ≡ [] → routes ≡ routes_at (paths_over b over) (row_prefixes b.rows.items) → routes ≡ routes_of (held_in (paths_over b over))
+by_rows b over ranks routes f i e h = h ∙ routes_are (paths_over b over) (row_prefixes b.rows.items) (rows_sorted b.rows.items f.ordered) (covered b over ranks (row_prefixes b.rows.items) i (all_rows b.rows.items) (subst (λ rs. HasRanks rs (row_prefixes b.rows.items)) (sym e) tt))
 
-pub by_prefixes : (b : Flat) (over : Seats) (ranks : List Rank) (ps read : List code.Prefix) (routes : Routes) → IsIndexed over ranks → HasRows b.rows.items ps → HasRanks ranks ps → IsStrictlySortedBy code_cmp ps → read ≡ ps → routes ≡ routes_at (both b over) read → routes ≡ routes_of (held_in (both b over))
-by_prefixes b over ranks ps read routes i rows has s e h = h ∙ (ap (routes_at (both b over)) e ∙ routes_are (both b over) ps s (covered b over ranks ps i rows has))
+pub by_prefixes : (b : Flat) (over : Paths) (ranks : List Rank) (ps read : List code.Prefix) (routes : Routes) → IsIndexed over ranks → HasRows b.rows.items ps → HasRanks ranks ps → IsStrictlySortedBy code_cmp ps → read ≡ ps → routes ≡ routes_at (paths_over b over) read → routes ≡ routes_of (held_in (paths_over b over))
+by_prefixes b over ranks ps read routes i rows has s e h = h ∙ (ap (routes_at (paths_over b over)) e ∙ routes_are (paths_over b over) ps s (covered b over ranks ps i rows has))
 
 pub no_elements : {X : Type 0} (xs : List X) → length xs ≡ 0 → xs ≡ []
 no_elements [] e = refl

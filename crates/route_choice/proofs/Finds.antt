@@ -1,4 +1,4 @@
--- Steps of the walks over ranks and seats.
+-- Steps of the walks over ranks and path keys.
 use Rattle.std.proofs.Common.{◌≡◌, List, [], ◌∷◌, ◌++◌, Bool, true, false, cond, not, Option, Some, None, nat_eq, refl, sym, ap, subst, ◌∙◌, append_assoc, append-nil}
 use Rattle.std.specs.Prelude.{if◌then◌else◌, filter, ◌&&◌, is_some}
 use Rattle.std.specs.List.{AllByRecursion}
@@ -19,31 +19,31 @@ use Rattle.fib_prefix.specs.declared.event.Peer.{Peer}
 use Rattle.fib_prefix.specs.declared.event.Via.{Via}
 use Rattle.fib_prefix.specs.declared.event.Elem.{Elem}
 use Rattle.fib_prefix.specs.declared.event.Elem.TheVariants.{Cut}
-use Rattle.flat_base.specs.declared.keys.Seat.{Seat}
-use Rattle.flat_base.specs.declared.keys.Rank.{Rank}
-use Rattle.flat_base.specs.declared.keys.Offer.{Offer}
-use Rattle.flat_base.specs.Orders.{seat_cmp, rank_cmp}
+use Rattle.adj_rib_in.specs.declared.keys.PathKey.{PathKey}
+use Rattle.adj_rib_in.specs.declared.keys.Rank.{Rank}
+use Rattle.adj_rib_in.specs.declared.keys.PathAttrs.{PathAttrs}
+use Rattle.adj_rib_in.specs.Orders.{key_cmp, rank_cmp}
 use Rattle.fib_prefix.specs.Order.{code_peer_cmp, code_via_cmp}
-use Rattle.flat_base.specs.Seats.{Seats}
-use Rattle.route_choice.specs.Walks.{ranks_of, seats_of, offer_ranked, or_next, first_in, cuts_in}
-use Rattle.flat_base.specs.Bests.{is_out}
-use Rattle.flat_base.proofs.Orders.{prefix_total, peer_total}
+use Rattle.adj_rib_in.specs.Paths.{Paths}
+use Rattle.route_choice.specs.Walks.{ranks_of, paths_of, attrs_ranked, or_next, first_in, cuts_in}
+use Rattle.adj_rib_in.specs.Bests.{is_excluded}
+use Rattle.adj_rib_in.proofs.Orders.{prefix_total, peer_total}
 use denote.Enum.Bare.{sameb}
-use Rattle.flat_base.proofs.Equals.{via_eq, prefix_eq, peer_eq}
-use Rattle.flat_base.proofs.Orders.{is_equal}
+use Rattle.adj_rib_in.proofs.Equals.{via_eq, prefix_eq, peer_eq}
+use Rattle.adj_rib_in.proofs.Orders.{is_equal}
 
 -- ---- the code's tests of equality say what its orders do
 
 -- and so do its tests of what there may be
 module _ (but : Option Via) (p q : Via) (b : Bool) (test : b ≡ not (option_eq (via_same.ghosts).eq but (Some p))) (own : p ≡ q) where
-  ne_out : (o : Option Via) → not (option_eq (via_same.ghosts).eq o (Some p)) ≡ not (is_out o q)
+  ne_out : (o : Option Via) → not (option_eq (via_same.ghosts).eq o (Some p)) ≡ not (is_excluded o q)
   ne_out None = refl
   ne_out (Some r) = ap not (via_eq r p ∙ ap (λ x. is_eq (code_via_cmp r x)) own)
 
-  pub stays_in : b ≡ true → is_out but q ≡ false
+  pub stays_in : b ≡ true → is_excluded but q ≡ false
   stays_in t = not-true _ (sym (test ∙ ne_out but) ∙ t)
 
-  pub left_out : b ≡ false → is_out but q ≡ true
+  pub left_out : b ≡ false → is_excluded but q ≡ true
   left_out t = not-false _ (sym (test ∙ ne_out but) ∙ t)
 
 -- whether this is the prefix that came last
@@ -158,95 +158,95 @@ past_it p r rest s g n = by_order (code_cmp p r.prefix) refl g n
     by_order Greater e g n = absurd cc
 
 -- at a rank of the prefix
-pub at_rank : (seats : Seats) (but : Option Via) (p : code.Prefix) (r : Rank) (rest : List Rank) → is_eq (code_cmp p r.prefix) ≡ true → first_in seats but (ranks_of p (r ∷ rest)) ≡ (if is_out but r.via then first_in seats but (ranks_of p rest) else or_next r.via (offer_ranked seats r) (first_in seats but (ranks_of p rest)))
+pub at_rank : (paths : Paths) (but : Option Via) (p : code.Prefix) (r : Rank) (rest : List Rank) → is_eq (code_cmp p r.prefix) ≡ true → first_in paths but (ranks_of p (r ∷ rest)) ≡ (if is_excluded but r.via then first_in paths but (ranks_of p rest) else or_next r.via (attrs_ranked paths r) (first_in paths but (ranks_of p rest)))
 unfolding first_in
-at_rank seats but p r rest e = ap (λ b. first_in seats but (cond b (r ∷ ranks_of p rest) (ranks_of p rest))) e
+at_rank paths but p r rest e = ap (λ b. first_in paths but (cond b (r ∷ ranks_of p rest) (ranks_of p rest))) e
 
-pub nothing_in : (seats : Seats) (but : Option Via) → first_in seats but [] ≡ None
+pub nothing_in : (paths : Paths) (but : Option Via) → first_in paths but [] ≡ None
 unfolding first_in
-nothing_in seats but = refl
+nothing_in paths but = refl
 
-pub record AtRanks (seats : Seats) (but : Option Via) (p : code.Prefix) (ranks rest : List Rank) : Type 0 where
+pub record AtRanks (paths : Paths) (but : Option Via) (p : code.Prefix) (ranks rest : List Rank) : Type 0 where
   pub ordered : IsStrictlySortedBy rank_cmp ranks
   pub sorted : IsStrictlySortedBy rank_cmp rest
   pub above : AllByRecursion (λ r. is_gt (code_cmp p r.prefix) ≡ false) rest
-  pub found : first_in seats but (ranks_of p ranks) ≡ first_in seats but (ranks_of p rest)
+  pub found : first_in paths but (ranks_of p ranks) ≡ first_in paths but (ranks_of p rest)
 
-pub walk_start : (seats : Seats) (but : Option Via) (p : code.Prefix) (least : Rank) (ranks items rest : List Rank) → IsStrictlySortedBy rank_cmp ranks → items ≡ ranks_from least ranks → rest ≡ items → least.prefix ≡ p → ((r : Rank) → code_cmp p r.prefix ≡ Equal → is_gt (rank_cmp least r) ≡ false) → AtRanks seats but p ranks rest
-walk_start seats but p least ranks items rest s e f g h =
+pub walk_start : (paths : Paths) (but : Option Via) (p : code.Prefix) (least : Rank) (ranks items rest : List Rank) → IsStrictlySortedBy rank_cmp ranks → items ≡ ranks_from least ranks → rest ≡ items → least.prefix ≡ p → ((r : Rank) → code_cmp p r.prefix ≡ Equal → is_gt (rank_cmp least r) ≡ false) → AtRanks paths but p ranks rest
+walk_start paths but p least ranks items rest s e f g h =
     let x : ranks_from least ranks ≡ rest = sym (f ∙ e) in
     record {
       ordered = s;
       sorted = subst (λ rs. IsStrictlySortedBy rank_cmp rs) x (sorted_kept rank_cmp (λ r. is_le (rank_cmp least r) && not false) ranks s);
       above = subst (λ rs. AllByRecursion (λ r. is_gt (code_cmp p r.prefix) ≡ false) rs) x (from_above p least ranks g);
-      found = ap (first_in seats but) (sym (from_same p least ranks h)) ∙ ap (λ rs. first_in seats but (ranks_of p rs)) x;
+      found = ap (first_in paths but) (sym (from_same p least ranks h)) ∙ ap (λ rs. first_in paths but (ranks_of p rs)) x;
     }
 
-module _ (seats : Seats) (but : Option Via) (p : code.Prefix) (ranks it : List Rank) (r : Rank) (rest : List Rank) (at : AtRanks seats but p ranks it) (step : it ≡ r ∷ rest) (f : code.Prefix) (own : f ≡ r.prefix) (ne : Bool)
+module _ (paths : Paths) (but : Option Via) (p : code.Prefix) (ranks it : List Rank) (r : Rank) (rest : List Rank) (at : AtRanks paths but p ranks it) (step : it ≡ r ∷ rest) (f : code.Prefix) (own : f ≡ r.prefix) (ne : Bool)
     (test : ne ≡ not ((prefix_same.ghosts).eq p f)) where
-  here : AtRanks seats but p ranks (r ∷ rest)
-  here = subst (λ rs. AtRanks seats but p ranks rs) step at
+  here : AtRanks paths but p ranks (r ∷ rest)
+  here = subst (λ rs. AtRanks paths but p ranks rs) step at
 
   differs : ne ≡ not (is_eq (code_cmp p r.prefix))
   differs = test ∙ (ap not (prefix_eq p f) ∙ ap (λ x. not (is_eq (code_cmp p x))) own)
 
-  pub walk_past : ne ≡ true → None ≡ first_in seats but (ranks_of p ranks)
-  walk_past t = sym (here.found ∙ (ap (first_in seats but) (past_it p r rest here.sorted here.above.0 (not-true _ (sym differs ∙ t))) ∙ nothing_in seats but))
+  pub walk_past : ne ≡ true → None ≡ first_in paths but (ranks_of p ranks)
+  walk_past t = sym (here.found ∙ (ap (first_in paths but) (past_it p r rest here.sorted here.above.0 (not-true _ (sym differs ∙ t))) ∙ nothing_in paths but))
 
   is_same : ne ≡ false → is_eq (code_cmp p r.prefix) ≡ true
   is_same t = not-false _ (sym differs ∙ t)
 
-  pub walk_found : ne ≡ false → (out : Bool) → out ≡ is_out but r.via → out ≡ false → (o : Option Offer) → o ≡ offer_ranked seats r → (offer : Offer) → o ≡ Some offer → Some (record { via = r.via; offer = offer }) ≡ first_in seats but (ranks_of p ranks)
-  walk_found t out a b o c offer d =
-      sym (here.found ∙ (at_rank seats but p r rest (is_same t) ∙ (ap (λ x. if x then first_in seats but (ranks_of p rest) else or_next r.via (offer_ranked seats r) (first_in seats but (ranks_of p rest))) (sym a ∙ b) ∙ ap (λ x. or_next r.via x (first_in seats but (ranks_of p rest))) (sym c ∙ d))))
+  pub walk_found : ne ≡ false → (out : Bool) → out ≡ is_excluded but r.via → out ≡ false → (o : Option PathAttrs) → o ≡ attrs_ranked paths r → (attrs : PathAttrs) → o ≡ Some attrs → Some (record { via = r.via; attrs = attrs }) ≡ first_in paths but (ranks_of p ranks)
+  walk_found t out a b o c attrs d =
+      sym (here.found ∙ (at_rank paths but p r rest (is_same t) ∙ (ap (λ x. if x then first_in paths but (ranks_of p rest) else or_next r.via (attrs_ranked paths r) (first_in paths but (ranks_of p rest))) (sym a ∙ b) ∙ ap (λ x. or_next r.via x (first_in paths but (ranks_of p rest))) (sym c ∙ d))))
 
-  walk_on : first_in seats but (ranks_of p (r ∷ rest)) ≡ first_in seats but (ranks_of p rest) → AtRanks seats but p ranks rest
+  walk_on : first_in paths but (ranks_of p (r ∷ rest)) ≡ first_in paths but (ranks_of p rest) → AtRanks paths but p ranks rest
   unfolding IsStrictlySortedBy
   walk_on e = record { ordered = here.ordered; sorted = here.sorted.1; above = here.above.1; found = here.found ∙ e }
 
-  pub walk_out : ne ≡ false → (out : Bool) → out ≡ is_out but r.via → out ≡ true → AtRanks seats but p ranks rest
-  walk_out t out a b = walk_on (at_rank seats but p r rest (is_same t) ∙ ap (λ x. if x then first_in seats but (ranks_of p rest) else or_next r.via (offer_ranked seats r) (first_in seats but (ranks_of p rest))) (sym a ∙ b))
+  pub walk_out : ne ≡ false → (out : Bool) → out ≡ is_excluded but r.via → out ≡ true → AtRanks paths but p ranks rest
+  walk_out t out a b = walk_on (at_rank paths but p r rest (is_same t) ∙ ap (λ x. if x then first_in paths but (ranks_of p rest) else or_next r.via (attrs_ranked paths r) (first_in paths but (ranks_of p rest))) (sym a ∙ b))
 
-  pub walk_none : ne ≡ false → (out : Bool) → out ≡ is_out but r.via → out ≡ false → (o : Option Offer) → o ≡ offer_ranked seats r → o ≡ None → AtRanks seats but p ranks rest
+  pub walk_none : ne ≡ false → (out : Bool) → out ≡ is_excluded but r.via → out ≡ false → (o : Option PathAttrs) → o ≡ attrs_ranked paths r → o ≡ None → AtRanks paths but p ranks rest
   walk_none t out a b o c d =
-      walk_on (at_rank seats but p r rest (is_same t) ∙ (ap (λ x. if x then first_in seats but (ranks_of p rest) else or_next r.via (offer_ranked seats r) (first_in seats but (ranks_of p rest))) (sym a ∙ b) ∙ ap (λ x. or_next r.via x (first_in seats but (ranks_of p rest))) (sym c ∙ d)))
+      walk_on (at_rank paths but p r rest (is_same t) ∙ (ap (λ x. if x then first_in paths but (ranks_of p rest) else or_next r.via (attrs_ranked paths r) (first_in paths but (ranks_of p rest))) (sym a ∙ b) ∙ ap (λ x. or_next r.via x (first_in paths but (ranks_of p rest))) (sym c ∙ d)))
 
-pub walk_end : (seats : Seats) (but : Option Via) (p : code.Prefix) (ranks it : List Rank) → AtRanks seats but p ranks it → it ≡ [] → None ≡ first_in seats but (ranks_of p ranks)
-walk_end seats but p ranks it at e = sym (at.found ∙ (ap (λ rs. first_in seats but (ranks_of p rs)) e ∙ nothing_in seats but))
+pub walk_end : (paths : Paths) (but : Option Via) (p : code.Prefix) (ranks it : List Rank) → AtRanks paths but p ranks it → it ≡ [] → None ≡ first_in paths but (ranks_of p ranks)
+walk_end paths but p ranks it at e = sym (at.found ∙ (ap (λ rs. first_in paths but (ranks_of p rs)) e ∙ nothing_in paths but))
 
--- ---- the walk over a peer's seats
+-- ---- the walk over a peer's path keys
 
--- at the first seat that isn't below the least of the peer
-abbrev seats_from : Seat → Seats → Seats
-seats_from least seats = filter (λ e. is_le (seat_cmp least e.0) && not false) seats
+-- at the first path key that isn't below the least of the peer
+abbrev paths_from : PathKey → Paths → Paths
+paths_from least paths = filter (λ e. is_le (key_cmp least e.0) && not false) paths
 
--- seats that aren't below a peer's
-abbrev FromPeer : Peer → Seats → Type 0
-FromPeer q seats = AllByRecursion (λ (e : Seat × Option Offer). is_gt (code_peer_cmp q e.0.via.peer) ≡ false) seats
+-- path keys that aren't below a peer's
+abbrev FromPeer : Peer → Paths → Type 0
+FromPeer q paths = AllByRecursion (λ (e : PathKey × Option PathAttrs). is_gt (code_peer_cmp q e.0.via.peer) ≡ false) paths
 
-keys_kept : (p : Seat → Bool) (Q : Seat → Type 0) (seats : Seats) → AllByRecursion Q (keys_of seats) → AllByRecursion Q (keys_of (filter (λ e. p e.0) seats))
+keys_kept : (p : PathKey → Bool) (Q : PathKey → Type 0) (paths : Paths) → AllByRecursion Q (keys_of paths) → AllByRecursion Q (keys_of (filter (λ e. p e.0) paths))
 keys_kept p Q [] a = tt
-keys_kept p Q (e ∷ seats) a = by_test (p e.0) (keys_kept p Q seats a.1)
+keys_kept p Q (e ∷ paths) a = by_test (p e.0) (keys_kept p Q paths a.1)
   where
-    by_test : (b : Bool) → AllByRecursion Q (keys_of (filter (λ (e : Seat × Option Offer). p e.0) seats)) → AllByRecursion Q (keys_of (cond b (e ∷ filter (λ (e : Seat × Option Offer). p e.0) seats) (filter (λ (e : Seat × Option Offer). p e.0) seats)))
+    by_test : (b : Bool) → AllByRecursion Q (keys_of (filter (λ (e : PathKey × Option PathAttrs). p e.0) paths)) → AllByRecursion Q (keys_of (cond b (e ∷ filter (λ (e : PathKey × Option PathAttrs). p e.0) paths) (filter (λ (e : PathKey × Option PathAttrs). p e.0) paths)))
     by_test true ih = (a.0, ih)
     by_test false ih = ih
 
-seats_sorted : (p : Seat → Bool) (seats : Seats) → IsStrictlySortedBy seat_cmp (keys_of seats) → IsStrictlySortedBy seat_cmp (keys_of (filter (λ e. p e.0) seats))
+paths_sorted : (p : PathKey → Bool) (paths : Paths) → IsStrictlySortedBy key_cmp (keys_of paths) → IsStrictlySortedBy key_cmp (keys_of (filter (λ e. p e.0) paths))
 unfolding IsStrictlySortedBy
-seats_sorted p [] s = tt
-seats_sorted p (e ∷ seats) s = by_test (p e.0) (seats_sorted p seats s.1)
+paths_sorted p [] s = tt
+paths_sorted p (e ∷ paths) s = by_test (p e.0) (paths_sorted p paths s.1)
   where
-    by_test : (b : Bool) → IsStrictlySortedBy seat_cmp (keys_of (filter (λ (e : Seat × Option Offer). p e.0) seats)) → IsStrictlySortedBy seat_cmp (keys_of (cond b (e ∷ filter (λ (e : Seat × Option Offer). p e.0) seats) (filter (λ (e : Seat × Option Offer). p e.0) seats)))
-    by_test true ih = (keys_kept p (λ t. seat_cmp e.0 t ≡ Less) seats s.0, ih)
+    by_test : (b : Bool) → IsStrictlySortedBy key_cmp (keys_of (filter (λ (e : PathKey × Option PathAttrs). p e.0) paths)) → IsStrictlySortedBy key_cmp (keys_of (cond b (e ∷ filter (λ (e : PathKey × Option PathAttrs). p e.0) paths) (filter (λ (e : PathKey × Option PathAttrs). p e.0) paths)))
+    by_test true ih = (keys_kept p (λ t. key_cmp e.0 t ≡ Less) paths s.0, ih)
     by_test false ih = ih
 
 -- past the peer nothing is left
-past_peer : (q : Peer) (e : Seat × Option Offer) (rest : Seats) → IsStrictlySortedBy seat_cmp (keys_of (e ∷ rest)) → is_gt (code_peer_cmp q e.0.via.peer) ≡ false → is_eq (code_peer_cmp q e.0.via.peer) ≡ false → seats_of q (e ∷ rest) ≡ []
+past_peer : (q : Peer) (e : PathKey × Option PathAttrs) (rest : Paths) → IsStrictlySortedBy key_cmp (keys_of (e ∷ rest)) → is_gt (code_peer_cmp q e.0.via.peer) ≡ false → is_eq (code_peer_cmp q e.0.via.peer) ≡ false → paths_of q (e ∷ rest) ≡ []
 unfolding IsStrictlySortedBy
 past_peer q e rest s g n = by_order (code_peer_cmp q e.0.via.peer) refl g n
   where
-    later : code_peer_cmp q e.0.via.peer ≡ Less → (es : Seats) → AllByRecursion (λ t. seat_cmp e.0 t ≡ Less) (keys_of es) → AllByRecursion (λ (d : Seat × Option Offer). is_eq (code_peer_cmp q d.0.via.peer) ≡ false) es
+    later : code_peer_cmp q e.0.via.peer ≡ Less → (es : Paths) → AllByRecursion (λ t. key_cmp e.0 t ≡ Less) (keys_of es) → AllByRecursion (λ (d : PathKey × Option PathAttrs). is_eq (code_peer_cmp q d.0.via.peer) ≡ false) es
     later l [] a = tt
     later l (d ∷ es) a = (by_next (code_peer_cmp e.0.via.peer d.0.via.peer) refl a.0, later l es a.1)
       where
@@ -255,68 +255,68 @@ past_peer q e rest s g n = by_order (code_peer_cmp q e.0.via.peer) refl g n
         by_next Equal u x = ap is_eq (sym (alike_right peer_total e.0.via.peer d.0.via.peer q u) ∙ l)
         by_next Greater u x = absurd cc
 
-    by_order : (o : Ordering) → code_peer_cmp q e.0.via.peer ≡ o → is_gt o ≡ false → is_eq o ≡ false → seats_of q (e ∷ rest) ≡ []
+    by_order : (o : Ordering) → code_peer_cmp q e.0.via.peer ≡ o → is_gt o ≡ false → is_eq o ≡ false → paths_of q (e ∷ rest) ≡ []
     by_order Less l g n = filter_none (λ d. is_eq (code_peer_cmp q d.0.via.peer)) (e ∷ rest) (ap is_eq l, later l rest s.0)
     by_order Equal l g n = absurd cc
     by_order Greater l g n = absurd cc
 
-pub record AtSeats (q : Peer) (seats : Seats) (cuts : List Elem) (rest : Seats) : Type 0 where
-  pub ordered : IsStrictlySortedBy seat_cmp (keys_of seats)
-  pub sorted : IsStrictlySortedBy seat_cmp (keys_of rest)
+pub record AtPaths (q : Peer) (paths : Paths) (cuts : List Elem) (rest : Paths) : Type 0 where
+  pub ordered : IsStrictlySortedBy key_cmp (keys_of paths)
+  pub sorted : IsStrictlySortedBy key_cmp (keys_of rest)
   pub above : FromPeer q rest
-  pub cut : cuts ++ cuts_in (seats_of q rest) ≡ cuts_in (seats_of q seats)
+  pub cut : cuts ++ cuts_in (paths_of q rest) ≡ cuts_in (paths_of q paths)
 
-pub seats_start : (q : Peer) (least : Seat) (seats items rest : Seats) (cuts : List Elem) → cuts ≡ [] → IsStrictlySortedBy seat_cmp (keys_of seats) → items ≡ seats_from least seats → rest ≡ items → least.via.peer ≡ q → ((s : Seat) → code_peer_cmp q s.via.peer ≡ Equal → is_gt (seat_cmp least s) ≡ false) → AtSeats q seats cuts rest
-seats_start q least seats items rest cuts n s e f g h =
-    let x : seats_from least seats ≡ rest = sym (f ∙ e) in
+pub paths_start : (q : Peer) (least : PathKey) (paths items rest : Paths) (cuts : List Elem) → cuts ≡ [] → IsStrictlySortedBy key_cmp (keys_of paths) → items ≡ paths_from least paths → rest ≡ items → least.via.peer ≡ q → ((s : PathKey) → code_peer_cmp q s.via.peer ≡ Equal → is_gt (key_cmp least s) ≡ false) → AtPaths q paths cuts rest
+paths_start q least paths items rest cuts n s e f g h =
+    let x : paths_from least paths ≡ rest = sym (f ∙ e) in
     record {
       ordered = s;
-      sorted = subst (λ es. IsStrictlySortedBy seat_cmp (keys_of es)) x (seats_sorted (λ t. is_le (seat_cmp least t) && not false) seats s);
+      sorted = subst (λ es. IsStrictlySortedBy key_cmp (keys_of es)) x (paths_sorted (λ t. is_le (key_cmp least t) && not false) paths s);
       above =
-          subst (FromPeer q) x (all_filtered (λ (d : Seat × Option Offer). is_le (seat_cmp least d.0) && not false) (λ d. is_gt (code_peer_cmp q d.0.via.peer) ≡ false) seats (λ d t.
-          ap (λ p. is_gt (code_peer_cmp p d.0.via.peer)) (sym g) ∙ not_above (code_peer_cmp least.via.peer d.0.via.peer) (ordering_then (code_cmp least.prefix d.0.prefix) (nat_cmp least.via.id d.0.via.id)) (le_is (seat_cmp least d.0) (sym (from_least (is_le (seat_cmp least d.0))) ∙ t))));
+          subst (FromPeer q) x (all_filtered (λ (d : PathKey × Option PathAttrs). is_le (key_cmp least d.0) && not false) (λ d. is_gt (code_peer_cmp q d.0.via.peer) ≡ false) paths (λ d t.
+          ap (λ p. is_gt (code_peer_cmp p d.0.via.peer)) (sym g) ∙ not_above (code_peer_cmp least.via.peer d.0.via.peer) (ordering_then (code_cmp least.prefix d.0.prefix) (nat_cmp least.via.id d.0.via.id)) (le_is (key_cmp least d.0) (sym (from_least (is_le (key_cmp least d.0))) ∙ t))));
       cut =
-          ap (λ xs. xs ++ cuts_in (seats_of q rest)) n
-          ∙ (ap (λ es. cuts_in (seats_of q es)) (sym x)
-          ∙ ap cuts_in (filter_part (λ d. is_eq (code_peer_cmp q d.0.via.peer)) (λ (d : Seat × Option Offer). is_le (seat_cmp least d.0) && not false) seats (λ d t. from_least (is_le (seat_cmp least d.0)) ∙ is_le_from (seat_cmp least d.0) (h d.0 (is_equal (code_peer_cmp q d.0.via.peer) t)))));
+          ap (λ xs. xs ++ cuts_in (paths_of q rest)) n
+          ∙ (ap (λ es. cuts_in (paths_of q es)) (sym x)
+          ∙ ap cuts_in (filter_part (λ d. is_eq (code_peer_cmp q d.0.via.peer)) (λ (d : PathKey × Option PathAttrs). is_le (key_cmp least d.0) && not false) paths (λ d t. from_least (is_le (key_cmp least d.0)) ∙ is_le_from (key_cmp least d.0) (h d.0 (is_equal (code_peer_cmp q d.0.via.peer) t)))));
     }
 
-module _ (q : Peer) (seats it : Seats) (cuts : List Elem) (s : Seat) (o : Option Offer) (rest : Seats) (at : AtSeats q seats cuts it) (step : it ≡ (s, o) ∷ rest) (f : Peer) (own : f ≡ s.via.peer) (ne : Bool)
+module _ (q : Peer) (paths it : Paths) (cuts : List Elem) (s : PathKey) (o : Option PathAttrs) (rest : Paths) (at : AtPaths q paths cuts it) (step : it ≡ (s, o) ∷ rest) (f : Peer) (own : f ≡ s.via.peer) (ne : Bool)
     (test : ne ≡ not ((sameb the_type q.addr.family f.addr.family && nat_eq q.addr.bits f.addr.bits) && nat_eq q.asn f.asn)) where
-  seat_here : AtSeats q seats cuts ((s, o) ∷ rest)
-  seat_here = subst (λ es. AtSeats q seats cuts es) step at
+  key_here : AtPaths q paths cuts ((s, o) ∷ rest)
+  key_here = subst (λ es. AtPaths q paths cuts es) step at
 
   peer_differs : ne ≡ not (is_eq (code_peer_cmp q s.via.peer))
   peer_differs = test ∙ (ap not (peer_eq q f) ∙ ap (λ x. not (is_eq (code_peer_cmp q x))) own)
 
-  -- at a seat of another peer all is cut
-  pub cut_all : ne ≡ true → cuts ≡ cuts_in (seats_of q seats)
+  -- at a path key of another peer all is cut
+  pub cut_all : ne ≡ true → cuts ≡ cuts_in (paths_of q paths)
   unfolding cuts_in
   cut_all t =
       sym (append-nil cuts)
-      ∙ (ap (λ es. cuts ++ cuts_in es) (sym (past_peer q (s, o) rest seat_here.sorted seat_here.above.0 (not-true _ (sym peer_differs ∙ t)))) ∙ seat_here.cut)
+      ∙ (ap (λ es. cuts ++ cuts_in es) (sym (past_peer q (s, o) rest key_here.sorted key_here.above.0 (not-true _ (sym peer_differs ∙ t)))) ∙ key_here.cut)
 
-  more_seats : ne ≡ false → seats_of q ((s, o) ∷ rest) ≡ (s, o) ∷ seats_of q rest
-  more_seats t = ap (λ b. cond b ((s, o) ∷ seats_of q rest) (seats_of q rest)) (not-false _ (sym peer_differs ∙ t))
+  more_paths : ne ≡ false → paths_of q ((s, o) ∷ rest) ≡ (s, o) ∷ paths_of q rest
+  more_paths t = ap (λ b. cond b ((s, o) ∷ paths_of q rest) (paths_of q rest)) (not-false _ (sym peer_differs ∙ t))
 
-  pub cut_more : ne ≡ false → (b : Bool) → b ≡ is_some o → b ≡ true → (more : List Elem) (v : Via) (p : code.Prefix) → v ≡ s.via → p ≡ s.prefix → more ≡ cuts ++ (Cut v p ∷ []) → AtSeats q seats more rest
+  pub cut_more : ne ≡ false → (b : Bool) → b ≡ is_some o → b ≡ true → (more : List Elem) (v : Via) (p : code.Prefix) → v ≡ s.via → p ≡ s.prefix → more ≡ cuts ++ (Cut v p ∷ []) → AtPaths q paths more rest
   unfolding IsStrictlySortedBy cuts_in
-  cut_more t b u w more v p a d m = record { ordered = seat_here.ordered; sorted = seat_here.sorted.1; above = seat_here.above.1; cut = by_offer o (sym u ∙ w) (ap (λ es. cuts ++ cuts_in es) (sym (more_seats t)) ∙ seat_here.cut) }
+  cut_more t b u w more v p a d m = record { ordered = key_here.ordered; sorted = key_here.sorted.1; above = key_here.above.1; cut = by_attrs o (sym u ∙ w) (ap (λ es. cuts ++ cuts_in es) (sym (more_paths t)) ∙ key_here.cut) }
     where
-      by_offer : (o : Option Offer) → is_some o ≡ true → cuts ++ cuts_in ((s, o) ∷ seats_of q rest) ≡ cuts_in (seats_of q seats) → more ++ cuts_in (seats_of q rest) ≡ cuts_in (seats_of q seats)
-      by_offer (Some offer) x h =
-          ap (λ xs. xs ++ cuts_in (seats_of q rest)) (m ∙ (ap (λ y. cuts ++ (Cut y p ∷ [])) a ∙ ap (λ y. cuts ++ (Cut s.via y ∷ [])) d)) ∙ (append_assoc cuts (Cut s.via s.prefix ∷ []) (cuts_in (seats_of q rest)) ∙ h)
-      by_offer None x h = absurd cc
+      by_attrs : (o : Option PathAttrs) → is_some o ≡ true → cuts ++ cuts_in ((s, o) ∷ paths_of q rest) ≡ cuts_in (paths_of q paths) → more ++ cuts_in (paths_of q rest) ≡ cuts_in (paths_of q paths)
+      by_attrs (Some attrs) x h =
+          ap (λ xs. xs ++ cuts_in (paths_of q rest)) (m ∙ (ap (λ y. cuts ++ (Cut y p ∷ [])) a ∙ ap (λ y. cuts ++ (Cut s.via y ∷ [])) d)) ∙ (append_assoc cuts (Cut s.via s.prefix ∷ []) (cuts_in (paths_of q rest)) ∙ h)
+      by_attrs None x h = absurd cc
 
-  pub no_cut : ne ≡ false → (b : Bool) → b ≡ is_some o → b ≡ false → AtSeats q seats cuts rest
+  pub no_cut : ne ≡ false → (b : Bool) → b ≡ is_some o → b ≡ false → AtPaths q paths cuts rest
   unfolding IsStrictlySortedBy cuts_in
-  no_cut t b u w = record { ordered = seat_here.ordered; sorted = seat_here.sorted.1; above = seat_here.above.1; cut = by_offer o (sym u ∙ w) (ap (λ es. cuts ++ cuts_in es) (sym (more_seats t)) ∙ seat_here.cut) }
+  no_cut t b u w = record { ordered = key_here.ordered; sorted = key_here.sorted.1; above = key_here.above.1; cut = by_attrs o (sym u ∙ w) (ap (λ es. cuts ++ cuts_in es) (sym (more_paths t)) ∙ key_here.cut) }
     where
-      by_offer : (o : Option Offer) → is_some o ≡ false → cuts ++ cuts_in ((s, o) ∷ seats_of q rest) ≡ cuts_in (seats_of q seats) → cuts ++ cuts_in (seats_of q rest) ≡ cuts_in (seats_of q seats)
-      by_offer (Some offer) x h = absurd cc
-      by_offer None x h = h
+      by_attrs : (o : Option PathAttrs) → is_some o ≡ false → cuts ++ cuts_in ((s, o) ∷ paths_of q rest) ≡ cuts_in (paths_of q paths) → cuts ++ cuts_in (paths_of q rest) ≡ cuts_in (paths_of q paths)
+      by_attrs (Some attrs) x h = absurd cc
+      by_attrs None x h = h
 
--- after the last seat, too
-pub cut_last : (q : Peer) (seats it : Seats) (cuts : List Elem) → AtSeats q seats cuts it → it ≡ [] → cuts ≡ cuts_in (seats_of q seats)
+-- after the last path key, too
+pub cut_last : (q : Peer) (paths it : Paths) (cuts : List Elem) → AtPaths q paths cuts it → it ≡ [] → cuts ≡ cuts_in (paths_of q paths)
 unfolding cuts_in
-cut_last q seats it cuts at e = sym (append-nil cuts) ∙ (ap (λ es. cuts ++ cuts_in (seats_of q es)) (sym e) ∙ at.cut)
+cut_last q paths it cuts at e = sym (append-nil cuts) ∙ (ap (λ es. cuts ++ cuts_in (paths_of q es)) (sym e) ∙ at.cut)

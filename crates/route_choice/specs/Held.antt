@@ -12,7 +12,7 @@ use Rattle.route_choice.specs.declared.choice.Choice.{Choice}
 use Rattle.route_choice.specs.declared.choice.Pick.{Pick}
 
 -- the candidates, and the elementary event that was planned last, if nothing changed since
-pub record Held : Type 0 where
+pub record HeldCandidates : Type 0 where
   pub candidates : Candidates
   pub room : Option Elem
 
@@ -34,6 +34,6 @@ abbrev pub pick_choice : Pick → Choice
 pick_choice pick = pick.choice
 
 -- it was planned, and nothing changed since
-pub record IsPlanned (held : Held) (pick : Pick) : Type 0 where
+pub record IsPlanned (held : HeldCandidates) (pick : Pick) : Type 0 where
   pub room : held.room ≡ Some (pick_elem pick)
   pub choice : IsChoice held.candidates (pick_elem pick) (pick_choice pick)

@@ -1,4 +1,4 @@
-pub mod Seats
+pub mod Paths
 pub mod Walks
 pub mod Kept
 pub mod Space

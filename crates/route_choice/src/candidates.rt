@@ -6,14 +6,14 @@ ghost use Rattle.std.specs.List.{AllByRecursion};
 ghost use Rattle.fib_prefix.specs.Views.{IsOfOctets, cand_as, peer_as, event_as, elem_as};
 ghost use Rattle.route_model.specs.Choice.{AreCandidates, after_elem, elems_of, chosen_for, routes_of};
 ghost use Rattle.kept_model.specs.Feed.{entries_of};
-ghost use Rattle.cand_rows.specs.Taken.{Takes};
-ghost use Rattle.flat_base.specs.Seats.{held_in};
-ghost use Rattle.flat_base.specs.Flat.{IsFlat, AreApart, flat_seats, both};
-ghost use Rattle.route_choice.specs.Held.{Held, IsChoice, IsPlanned, pick_elem, put_as};
-ghost use Rattle.route_choice.specs.Kept.{IsKept};
+ghost use Rattle.fib_prefix.specs.Taken.{TakesCands};
+ghost use Rattle.adj_rib_in.specs.Paths.{held_in};
+ghost use Rattle.adj_rib_in.specs.Flat.{IsFlat, ShareNoKey, flat_paths, paths_over};
+ghost use Rattle.route_choice.specs.Held.{HeldCandidates, IsChoice, IsPlanned, pick_elem, put_as};
+ghost use Rattle.route_choice.specs.Kept.{PathsAreKept};
 ghost use Rattle.route_choice.specs.Space.{HasSpace, planned_elem, over_of as over};
 
-use crate::all::hand_candidates;
+use crate::all::emit_candidates;
 use crate::both::{best_of, carry_one, choice_of, load_elem, make_space, plan_of, put_route};
 use crate::choice::{Choice, Pick};
 use crate::down::cuts_of;
@@ -21,9 +21,8 @@ use crate::entries::entries_of as all_entries;
 use crate::over::give_back;
 use crate::plan::{Plan, over_of};
 use crate::routes::routes_of as all_routes;
-use cand_rows::CandSink;
-use fib_prefix::{Addr, Cand, Elem, Entry, Event, HopTable, Peer, Prefix, Via};
-use flat_base::{Flat, Offer, Rank, Seat};
+use adj_rib_in::{Flat, PathAttrs, PathKey, Rank};
+use fib_prefix::{Addr, Cand, CandSink, Elem, Entry, Event, HopTable, Peer, Prefix, Via};
 use std::alloc::{AllocError, Global};
 use std::collections::{BTreeMap, BTreeSet};
 use std::marker::Model;
@@ -35,20 +34,20 @@ pub struct Candidates {
     alloc: Global,
     // what came in the order of prefixes
     flat: Flat,
-    // what is offered at each other seat; the seat that is held for the plan alone offers nothing
-    seats: BTreeMap<Seat, Option<Offer>>,
-    // the rank of each offer of these seats, and that which is held for the plan
+    // what is offered at each other path key; the path key that is held for the plan alone offers nothing
+    paths: BTreeMap<PathKey, Option<PathAttrs>>,
+    // the rank of each offer of these path keys, and that which is held for the plan
     ranks: BTreeSet<Rank>,
     // what was planned last, until something changes
     room: Option<Plan>,
 }
 
 impl Model for Candidates {
-    ghost Value = { Held };
+    ghost Value = { HeldCandidates };
 
-    ghost view = { λ c. record { candidates = held_in (both c.flat c.seats.entries); room = option_map planned_elem c.room } };
+    ghost view = { λ c. record { candidates = held_in (paths_over c.flat c.paths.entries); room = option_map planned_elem c.room } };
 
-    ghost invariant = { λ c. IsFlat c.flat × AreApart (flat_seats c.flat) c.seats.entries × IsKept c.seats.entries c.ranks.keys None (over c.room) × HasSpace c.flat c.room };
+    ghost invariant = { λ c. IsFlat c.flat × ShareNoKey (flat_paths c.flat) c.paths.entries × PathsAreKept c.paths.entries c.ranks.keys None (over c.room) × HasSpace c.flat c.room };
 }
 
 impl Candidates {
@@ -59,7 +58,7 @@ impl Candidates {
         Candidates {
             alloc,
             flat: Flat::new(alloc),
-            seats: BTreeMap::new(alloc),
+            paths: BTreeMap::new(alloc),
             ranks: BTreeSet::new(alloc),
             room: None,
         }
@@ -80,7 +79,7 @@ impl Candidates {
                 Elem::Put(via, prefix, path, hop),
             ]?),
             Event::Withdraw(via, prefix) => Ok(vec![in self.alloc; Elem::Cut(via, prefix)]?),
-            Event::Down(peer) => cuts_of(self.alloc, &self.flat, &self.seats, &peer),
+            Event::Down(peer) => cuts_of(self.alloc, &self.flat, &self.paths, &peer),
         }
     }
 
@@ -91,11 +90,11 @@ impl Candidates {
         ensures err { OnErr result (self.new ≡ self.old) }
     {
         let plan = plan_of(&self.flat, elem);
-        make_space(&mut self.flat, &mut self.seats, &mut self.ranks, &plan)?;
+        make_space(&mut self.flat, &mut self.paths, &mut self.ranks, &plan)?;
         let earlier = over_of(&self.room);
         self.room = Some(plan);
         give_back(
-            &mut self.seats,
+            &mut self.paths,
             &mut self.ranks,
             earlier,
             &over_of(&self.room),
@@ -121,7 +120,7 @@ impl Candidates {
         };
         Ok(Pick {
             elem: *elem,
-            choice: choice_of(&self.flat, &self.seats, &self.ranks, plan),
+            choice: choice_of(&self.flat, &self.paths, &self.ranks, plan),
         })
     }
 
@@ -135,7 +134,7 @@ impl Candidates {
         let Some(plan) = self.room else {
             return pick.choice;
         };
-        carry_one(&mut self.flat, &mut self.seats, &mut self.ranks, &plan);
+        carry_one(&mut self.flat, &mut self.paths, &mut self.ranks, &plan);
         self.room = None;
         pick.choice
     }
@@ -168,10 +167,10 @@ impl Candidates {
         ensures room { OnOk result (self.new.room ≡ None) }
         ensures err { OnErr result (self.new ≡ self.old) }
     {
-        load_elem(&mut self.flat, &mut self.seats, &mut self.ranks, elem)?;
+        load_elem(&mut self.flat, &mut self.paths, &mut self.ranks, elem)?;
         let earlier = over_of(&self.room);
         self.room = None;
-        give_back(&mut self.seats, &mut self.ranks, earlier, &None);
+        give_back(&mut self.paths, &mut self.ranks, earlier, &None);
         Ok(())
     }
 
@@ -195,7 +194,7 @@ impl Candidates {
     {
         put_route(
             &mut self.flat,
-            &mut self.seats,
+            &mut self.paths,
             &mut self.ranks,
             via,
             prefix,
@@ -204,7 +203,7 @@ impl Candidates {
         )?;
         let earlier = over_of(&self.room);
         self.room = None;
-        give_back(&mut self.seats, &mut self.ranks, earlier, &None);
+        give_back(&mut self.paths, &mut self.ranks, earlier, &None);
         Ok(())
     }
 
@@ -213,8 +212,8 @@ impl Candidates {
         ensures { option_map addr_as result ≡ chosen_for self.now.candidates
             (prefix_as prefix.now) }
     {
-        let best = best_of(&self.flat, &self.seats, &self.ranks, prefix, None)?;
-        Some(best.offer.hop())
+        let best = best_of(&self.flat, &self.paths, &self.ranks, prefix, None)?;
+        Some(best.attrs.hop())
     }
 
     /// Each prefix for which a peer offers a route, with the next hop of the chosen one, in the order of prefixes.
@@ -227,7 +226,7 @@ impl Candidates {
             ≡ routes_of self.now.candidates) }
         ensures held { AreCandidates self.now.candidates }
     {
-        all_routes(self.alloc, &self.flat, &self.seats, &self.ranks)
+        all_routes(self.alloc, &self.flat, &self.paths, &self.ranks)
     }
 
     /// The same with the numbers of next hops, 0 of one that has none, in one list.
@@ -240,10 +239,10 @@ impl Candidates {
             ≡ entries_of hops.now.list self.now.candidates) }
         ensures held { AreCandidates self.now.candidates }
     {
-        all_entries(self.alloc, &self.flat, &self.seats, &self.ranks, hops)
+        all_entries(self.alloc, &self.flat, &self.paths, &self.ranks, hops)
     }
 
-    /// All candidates, in the order of prefixes, then of ways, in one list: 144 octets each. `hand_all` makes no list.
+    /// All candidates, in the order of prefixes, then of path sources, in one list: 144 octets each. `emit_all` makes no list.
     ///
     /// # Errors
     ///
@@ -254,23 +253,23 @@ impl Candidates {
         ensures held { AreCandidates self.now.candidates }
     {
         let mut cands = Vec::new(self.alloc);
-        self.hand_all(&mut cands)?;
+        self.emit_all(&mut cands)?;
         Ok(cands)
     }
 
-    /// Hands on all candidates one by one, in the order of prefixes, then of ways. No list of them is made, but one of their prefixes.
+    /// Hands on all candidates one by one, in the order of prefixes, then of path sources. No list of them is made, but one of their prefixes.
     ///
     /// # Errors
     ///
     /// No memory; then a front of the candidates was taken.
-    pub fn hand_all<S: CandSink>(&self, out: &mut S) -> Result<(), AllocError>
+    pub fn emit_all<S: CandSink>(&self, out: &mut S) -> Result<(), AllocError>
         requires { S.ready out.old }
         ensures ready { OnOk result (S.ready out.new) }
-        ensures takes { OnOk result (Takes S.takes out.old self.now.candidates out.new) }
+        ensures takes { OnOk result (TakesCands S.takes out.old self.now.candidates out.new) }
         ensures octets { OnOk result (AllByRecursion IsOfOctets self.now.candidates) }
         ensures held { AreCandidates self.now.candidates }
     {
-        hand_candidates(self.alloc, &self.flat, &self.seats, &self.ranks, out)?;
+        emit_candidates(self.alloc, &self.flat, &self.paths, &self.ranks, out)?;
         Ok(())
     }
 }

@@ -7,15 +7,15 @@ ghost use Rattle.std.specs.Ordering.{is_eq};
 ghost use Rattle.fib_prefix.specs.Views.{peer_as, elem_as};
 ghost use Rattle.route_model.specs.Events.{Down};
 ghost use Rattle.route_model.specs.Choice.{elems_of};
-ghost use Rattle.flat_base.specs.Orders.{seat_cmp};
-ghost use Rattle.flat_base.specs.Seats.{held_in};
-ghost use Rattle.flat_base.specs.Flat.{IsFlat, AreApart, flat_seats, is_among, both};
-ghost use Rattle.route_choice.specs.Seats.{seat_in};
-ghost use Rattle.route_choice.specs.Walks.{cut_at};
+ghost use Rattle.adj_rib_in.specs.Orders.{key_cmp};
+ghost use Rattle.adj_rib_in.specs.Paths.{held_in};
+ghost use Rattle.adj_rib_in.specs.Flat.{IsFlat, ShareNoKey, flat_paths, is_among, paths_over};
+ghost use Rattle.route_choice.specs.Paths.{key_in};
+ghost use Rattle.route_choice.specs.Walks.{key_cut};
 
-use crate::over::{over_cuts, seat_of};
+use crate::over::{key_of, over_cuts};
+use adj_rib_in::{Flat, PathAttrs, PathKey};
 use fib_prefix::{Elem, Peer};
-use flat_base::{Flat, Offer, Seat};
 use std::alloc::{AllocError, Global};
 use std::collections::{BTreeMap, BTreeSet};
 
@@ -23,41 +23,41 @@ use std::collections::{BTreeMap, BTreeSet};
 pub fn cuts_of(
     alloc: Global,
     flat: &Flat,
-    seats: &BTreeMap<Seat, Option<Offer>>,
+    paths: &BTreeMap<PathKey, Option<PathAttrs>>,
     peer: &Peer,
 ) -> Result<Vec<Elem>, AllocError>
     requires flat { IsFlat flat.now }
-    requires apart { AreApart (flat_seats flat.now) seats.now.entries }
+    requires apart { ShareNoKey (flat_paths flat.now) paths.now.entries }
     ensures { IfOk result (λ cuts. map elem_as cuts.items
-        ≡ elems_of (held_in (both flat.now seats.now.entries)) (Down (peer_as peer.now))) }
+        ≡ elems_of (held_in (paths_over flat.now paths.now.entries)) (Down (peer_as peer.now))) }
 {
-    let others = over_cuts(alloc, seats, *peer)?;
+    let others = over_cuts(alloc, paths, *peer)?;
     let mut live = BTreeSet::new(alloc);
-    flat.add_seats_of(peer, &mut live)?;
+    flat.add_paths_of(peer, &mut live)?;
     add_cuts(&others, &mut live)?;
     let cuts = cuts_at(alloc, &live)?;
     Ok(cuts)
 }
 
-/// Adds the seats of cuts.
-fn add_cuts(cuts: &Vec<Elem>, seats: &mut BTreeSet<Seat>) -> Result<(), AllocError>
-    ensures { OnOk result ((s : Seat) → is_among seats.new.keys s ≡ (is_among seats.old.keys s
-        || list_any (λ e. is_eq (seat_cmp (seat_in e) s)) cuts.now.items)) }
+/// Adds the path keys of cuts.
+fn add_cuts(cuts: &Vec<Elem>, paths: &mut BTreeSet<PathKey>) -> Result<(), AllocError>
+    ensures { OnOk result ((s : PathKey) → is_among paths.new.keys s ≡ (is_among paths.old.keys s
+        || list_any (λ e. is_eq (key_cmp (key_in e) s)) cuts.now.items)) }
 {
     for cut in cuts.iter() {
-        seats.insert(seat_of(cut))?;
+        paths.insert(key_of(cut))?;
     }
     Ok(())
 }
 
-/// A cut at each seat, in their order.
-fn cuts_at(alloc: Global, seats: &BTreeSet<Seat>) -> Result<Vec<Elem>, AllocError>
-    ensures cuts { IfOk result (λ cuts. cuts.items ≡ map cut_at seats.now.keys) }
-    ensures ordered { set.IsOrdered seat_cmp seats.now }
+/// A cut at each path key, in their order.
+fn cuts_at(alloc: Global, paths: &BTreeSet<PathKey>) -> Result<Vec<Elem>, AllocError>
+    ensures cuts { IfOk result (λ cuts. cuts.items ≡ map key_cut paths.now.keys) }
+    ensures ordered { set.IsOrdered key_cmp paths.now }
 {
     let mut cuts = Vec::new(alloc);
-    for seat in seats.iter() {
-        cuts.push(Elem::Cut(seat.via(), seat.prefix()))?;
+    for key in paths.iter() {
+        cuts.push(Elem::Cut(key.via(), key.prefix()))?;
     }
     Ok(cuts)
 }

@@ -3,16 +3,16 @@
 ghost use Rattle.std.specs.Prelude.{◌≡◌, ◌++◌, ◌∷◌, [], map, IfOk, None, OnOk};
 ghost use Rattle.fib_addr.specs.Views.{addr_as, entry_as};
 ghost use Rattle.kept_model.specs.Feed.{entries_of as model_entries, number_in};
-ghost use Rattle.flat_base.specs.Seats.{Seats, held_in};
-ghost use Rattle.flat_base.specs.Bests.{IsBest};
-ghost use Rattle.flat_base.specs.Flat.{IsFlat, AreApart, flat_seats, both};
-ghost use Rattle.route_choice.specs.Seats.{IsIndexed};
+ghost use Rattle.adj_rib_in.specs.Paths.{Paths, held_in};
+ghost use Rattle.adj_rib_in.specs.Bests.{IsBestHeld};
+ghost use Rattle.adj_rib_in.specs.Flat.{IsFlat, ShareNoKey, flat_paths, paths_over};
+ghost use Rattle.route_choice.specs.Paths.{IsIndexed};
 ghost use Rattle.route_choice.specs.Walks.{OffersNothing, entries_at, row_prefixes};
 
 use crate::both::best_of;
 use crate::prefixes::all_prefixes;
+use adj_rib_in::{Candidate, Flat, PathAttrs, PathKey, Rank};
 use fib_prefix::{Addr, Entry, Hop, HopTable, Prefix};
-use flat_base::{Candidate, Flat, Offer, Rank, Seat};
 use std::alloc::{AllocError, Global};
 use std::collections::{BTreeMap, BTreeSet};
 
@@ -20,31 +20,31 @@ use std::collections::{BTreeMap, BTreeSet};
 pub fn entries_of(
     alloc: Global,
     flat: &Flat,
-    seats: &BTreeMap<Seat, Option<Offer>>,
+    paths: &BTreeMap<PathKey, Option<PathAttrs>>,
     ranks: &BTreeSet<Rank>,
     hops: &HopTable,
 ) -> Result<Vec<Entry>, AllocError>
     requires flat { IsFlat flat.now }
-    requires apart { AreApart (flat_seats flat.now) seats.now.entries }
-    requires indexed { IsIndexed seats.now.entries ranks.now.keys }
+    requires apart { ShareNoKey (flat_paths flat.now) paths.now.entries }
+    requires indexed { IsIndexed paths.now.entries ranks.now.keys }
     ensures { IfOk result (λ entries. map entry_as entries.items
-        ≡ model_entries hops.now.list (held_in (both flat.now seats.now.entries))) }
+        ≡ model_entries hops.now.list (held_in (paths_over flat.now paths.now.entries))) }
 {
     if ranks.is_empty() {
         let entries = entries_of_rows(alloc, flat, hops)?;
         return Ok(entries);
     }
     let prefixes = all_prefixes(alloc, flat, ranks)?;
-    let entries = entries_of_prefixes(alloc, flat, seats, ranks, hops, &prefixes)?;
+    let entries = entries_of_prefixes(alloc, flat, paths, ranks, hops, &prefixes)?;
     Ok(entries)
 }
 
 /// The entries of the prefixes that have a row, by the base alone.
 fn entries_of_rows(alloc: Global, flat: &Flat, hops: &HopTable) -> Result<Vec<Entry>, AllocError>
     requires { IsFlat flat.now }
-    ensures { IfOk result (λ entries. (over : Seats) → AreApart (flat_seats flat.now) over
+    ensures { IfOk result (λ entries. (over : Paths) → ShareNoKey (flat_paths flat.now) over
         → OffersNothing over → map entry_as entries.items
-        ≡ entries_at hops.now.list (both flat.now over) (row_prefixes flat.now.rows.items)) }
+        ≡ entries_at hops.now.list (paths_over flat.now over) (row_prefixes flat.now.rows.items)) }
 {
     let mut entries = Vec::with_capacity(alloc, flat.row_count())?;
     for row in 0..flat.row_count() {
@@ -60,20 +60,20 @@ fn entries_of_rows(alloc: Global, flat: &Flat, hops: &HopTable) -> Result<Vec<En
 fn entries_of_prefixes(
     alloc: Global,
     flat: &Flat,
-    seats: &BTreeMap<Seat, Option<Offer>>,
+    paths: &BTreeMap<PathKey, Option<PathAttrs>>,
     ranks: &BTreeSet<Rank>,
     hops: &HopTable,
     prefixes: &[Prefix],
 ) -> Result<Vec<Entry>, AllocError>
     requires flat { IsFlat flat.now }
-    requires apart { AreApart (flat_seats flat.now) seats.now.entries }
-    requires indexed { IsIndexed seats.now.entries ranks.now.keys }
+    requires apart { ShareNoKey (flat_paths flat.now) paths.now.entries }
+    requires indexed { IsIndexed paths.now.entries ranks.now.keys }
     ensures { IfOk result (λ entries. map entry_as entries.items
-        ≡ entries_at hops.now.list (both flat.now seats.now.entries) prefixes.now) }
+        ≡ entries_at hops.now.list (paths_over flat.now paths.now.entries) prefixes.now) }
 {
     let mut entries = Vec::with_capacity(alloc, prefixes.len())?;
     for prefix in prefixes {
-        let best = best_of(flat, seats, ranks, prefix, None);
+        let best = best_of(flat, paths, ranks, prefix, None);
         push_entry(hops, prefix, best, &mut entries)?;
     }
     Ok(entries)
@@ -86,12 +86,12 @@ fn push_entry(
     best: Option<Candidate>,
     entries: &mut Vec<Entry>,
 ) -> Result<(), AllocError>
-    ensures { (seats : Seats) → IsBest seats None prefix.now best
+    ensures { (paths : Paths) → IsBestHeld paths None prefix.now best
         → OnOk result (map entry_as entries.new.items ≡ map entry_as entries.old.items
-        ++ entries_at hops.now.list seats (prefix.now ∷ [])) }
+        ++ entries_at hops.now.list paths (prefix.now ∷ [])) }
 {
     if let Some(best) = best {
-        let hop = number(hops, &best.offer.hop());
+        let hop = number(hops, &best.attrs.hop());
         entries.push(Entry {
             prefix: *prefix,
             hop,

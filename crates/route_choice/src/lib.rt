@@ -13,9 +13,9 @@
 //! - g) The lowest peer address is preferred, IPv4 before IPv6, and of peers of one address the lowest AS.
 //!   Of one peer's routes that of the lowest path identifier is preferred (RFC 7911, section 3, leaves it open).
 //!
-//! What is loaded in the order of prefixes lies in a flat base (`flat_base`): a row for each prefix, with a run of slots, one for
-//! each way. What comes out of order, what updates bring for new places, and a prefix's routes past the 64th lie in two ordered
-//! maps over it: a route has a seat there, by peer, then prefix, then path identifier, which says what is offered, and a rank, by
+//! What is loaded in the order of prefixes lies in a flat base (`adj_rib_in`): a row for each prefix, with a run of slots, one for
+//! each path source. What comes out of order, what updates bring for new places, and a prefix's routes past the 64th lie in two ordered
+//! maps over it: a route has a path key there, by peer, then prefix, then path identifier, which says what is offered, and a rank, by
 //! prefix and then by preference. So a peer's routes lie together, in the maps and by a chain in the base, and a prefix's routes lie
 //! together. A change costs a few look-ups and a run of slots at most, whatever the other routes are; what a lost session takes
 //! costs its own routes.

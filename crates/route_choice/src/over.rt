@@ -1,4 +1,4 @@
-//! Seats and ranks: the routes that lie in the two ordered maps over the base.
+//! Path keys and ranks: the routes that lie in the two ordered maps over the base.
 
 ghost use Rattle.std.specs.Prelude.{IfOk, ◌≡◌, [], ◌&&◌, ◌||◌, List, true, false, cond, is_some, Some, None, Bool, OnOk, OnErr};
 ghost use Rattle.std.specs.Ordering.{is_eq};
@@ -8,66 +8,66 @@ ghost use Rattle.std.specs.Map.{keys_of};
 ghost use Rattle.fib_prefix.specs.Order.{code_via_cmp};
 ghost use Rattle.std.specs.BTreeSet as set;
 ghost use Rattle.fib_prefix.specs.declared.event.Via as code;
-ghost use Rattle.flat_base.specs.Orders.{seat_cmp, rank_cmp};
-ghost use Rattle.flat_base.specs.Seats.{offer_at as offered};
-ghost use Rattle.flat_base.specs.Ways.{Ways, AddsWays, way_offer, way_put};
-ghost use Rattle.route_choice.specs.Seats.{IsIndexed, HasRoom, has_rank, has_seat, seat_in, offer_in};
-ghost use Rattle.route_choice.specs.Kept.{IsKept, StaysKept, KeepsBeside, EachSeatServes, EachRankServes, holds_seat as seat_held, holds_rank as rank_held};
-ghost use Rattle.route_choice.specs.Walks.{offer_ranked as ranked, first_in, better_of, cuts_in, ranks_of, seats_of};
+ghost use Rattle.adj_rib_in.specs.Orders.{key_cmp, rank_cmp};
+ghost use Rattle.adj_rib_in.specs.Paths.{attrs_at as offered};
+ghost use Rattle.adj_rib_in.specs.Ways.{Ways, AddsWays, way_attrs, way_put};
+ghost use Rattle.route_choice.specs.Paths.{IsIndexed, OfferHasRoom, has_rank, has_key, key_in, attrs_in};
+ghost use Rattle.route_choice.specs.Kept.{PathsAreKept, StaysKept, KeepsBeside, EachKeyServes, EachRankServes, holds_key as key_held, holds_rank as rank_held};
+ghost use Rattle.route_choice.specs.Walks.{attrs_ranked as ranked, first_in, better_of, cuts_in, ranks_of, paths_of};
 
+use adj_rib_in::{Candidate, PathAttrs, PathKey, Rank};
 use fib_prefix::{Addr, Elem, Peer, Prefix, Via};
-use flat_base::{Candidate, Offer, Rank, Seat};
 use std::alloc::{AllocError, Global};
 use std::collections::{BTreeMap, BTreeSet};
 
-/// The seat that an elementary event is about.
-pub fn seat_of(elem: &Elem) -> Seat
-    ensures { result ≡ seat_in elem.now }
+/// The path key that an elementary event is about.
+pub fn key_of(elem: &Elem) -> PathKey
+    ensures { result ≡ key_in elem.now }
 {
     match *elem {
-        Elem::Put(via, prefix, _, _) => Seat::new(&via, &prefix),
-        Elem::Cut(via, prefix) => Seat::new(&via, &prefix),
+        Elem::Put(via, prefix, _, _) => PathKey::new(&via, &prefix),
+        Elem::Cut(via, prefix) => PathKey::new(&via, &prefix),
     }
 }
 
 /// What it offers there.
-pub fn offer_of(elem: &Elem) -> Option<Offer>
-    ensures { result ≡ offer_in elem.now }
+pub fn attrs_of(elem: &Elem) -> Option<PathAttrs>
+    ensures { result ≡ attrs_in elem.now }
 {
     match *elem {
-        Elem::Put(_, _, path, hop) => Some(Offer::new(path, &hop)),
+        Elem::Put(_, _, path, hop) => Some(PathAttrs::new(path, &hop)),
         Elem::Cut(_, _) => None,
     }
 }
 
-/// What is offered at a seat.
-pub fn offer_at(seats: &BTreeMap<Seat, Option<Offer>>, seat: &Seat) -> Option<Offer>
-    ensures { result ≡ offered seats.now.entries seat.now }
+/// What is offered at a path key.
+pub fn attrs_at(paths: &BTreeMap<PathKey, Option<PathAttrs>>, key: &PathKey) -> Option<PathAttrs>
+    ensures { result ≡ offered paths.now.entries key.now }
 {
-    match seats.get(seat) {
-        Some(offer) => *offer,
+    match paths.get(key) {
+        Some(attrs) => *attrs,
         None => None,
     }
 }
 
-/// The offer of a rank; none where the seat offers another path, or nothing.
-pub fn offer_ranked(seats: &BTreeMap<Seat, Option<Offer>>, rank: &Rank) -> Option<Offer>
-    ensures { result ≡ ranked seats.now.entries rank.now }
+/// The offer of a rank; none where the path key offers another path, or nothing.
+pub fn attrs_ranked(paths: &BTreeMap<PathKey, Option<PathAttrs>>, rank: &Rank) -> Option<PathAttrs>
+    ensures { result ≡ ranked paths.now.entries rank.now }
 {
-    match offer_at(seats, &rank.seat()) {
-        Some(offer) if offer.path() == rank.path() => Some(offer),
+    match attrs_at(paths, &rank.key()) {
+        Some(attrs) if attrs.path() == rank.path() => Some(attrs),
         _ => None,
     }
 }
 
-/// The preferred route for a prefix, that of a way left out.
+/// The preferred route for a prefix, that of a path source left out.
 pub fn best_but(
-    seats: &BTreeMap<Seat, Option<Offer>>,
+    paths: &BTreeMap<PathKey, Option<PathAttrs>>,
     ranks: &BTreeSet<Rank>,
     prefix: &Prefix,
     but: Option<Via>,
 ) -> Option<Candidate>
-    ensures first { result ≡ first_in seats.now.entries but (ranks_of prefix.now ranks.now.keys) }
+    ensures first { result ≡ first_in paths.now.entries but (ranks_of prefix.now ranks.now.keys) }
     ensures ordered { set.IsOrdered rank_cmp ranks.now }
 {
     for rank in ranks.range(Rank::first(prefix)..) {
@@ -75,10 +75,10 @@ pub fn best_but(
             return None;
         }
         if but != Some(rank.via()) {
-            if let Some(offer) = offer_ranked(seats, rank) {
+            if let Some(attrs) = attrs_ranked(paths, rank) {
                 return Some(Candidate {
                     via: rank.via(),
-                    offer,
+                    attrs,
                 });
             }
         }
@@ -88,12 +88,12 @@ pub fn best_but(
 
 /// Whether no rank is of a prefix: nothing is offered here for it then.
 pub fn has_no_rank(
-    seats: &BTreeMap<Seat, Option<Offer>>,
+    paths: &BTreeMap<PathKey, Option<PathAttrs>>,
     ranks: &BTreeSet<Rank>,
     prefix: &Prefix,
 ) -> bool
-    requires { IsIndexed seats.now.entries ranks.now.keys }
-    ensures { result ≡ true → (ways : Ways) → AddsWays seats.now.entries prefix.now ways ways }
+    requires { IsIndexed paths.now.entries ranks.now.keys }
+    ensures { result ≡ true → (ways : Ways) → AddsWays paths.now.entries prefix.now ways ways }
 {
     match ranks.range(Rank::first(prefix)..).next() {
         Some(rank) => *prefix != rank.prefix(),
@@ -101,11 +101,14 @@ pub fn has_no_rank(
     }
 }
 
-/// Adds what comes by ways in their order, where nothing came yet.
-pub fn add_list(list: &[(Via, Offer)], ways: &mut BTreeMap<Via, Offer>) -> Result<(), AllocError>
+/// Adds what comes from path sources in their order, where nothing came yet.
+pub fn add_list(
+    list: &[(Via, PathAttrs)],
+    ways: &mut BTreeMap<Via, PathAttrs>,
+) -> Result<(), AllocError>
     requires none { ways.old.entries ≡ [] }
     requires sorted { IsStrictlySortedBy code_via_cmp (keys_of list.now) }
-    ensures { OnOk result ((v : code.Via) → way_offer ways.new.entries v ≡ way_offer list.now v) }
+    ensures { OnOk result ((v : code.Via) → way_attrs ways.new.entries v ≡ way_attrs list.now v) }
 {
     for way in list {
         ways.insert(way.0, way.1)?;
@@ -113,59 +116,59 @@ pub fn add_list(list: &[(Via, Offer)], ways: &mut BTreeMap<Via, Offer>) -> Resul
     Ok(())
 }
 
-/// Adds what is offered here for a prefix, by ways.
+/// Adds what is offered here for a prefix, by path source.
 ///
 /// # Errors
 ///
 /// No memory.
 pub fn add_ways(
-    seats: &BTreeMap<Seat, Option<Offer>>,
+    paths: &BTreeMap<PathKey, Option<PathAttrs>>,
     ranks: &BTreeSet<Rank>,
     prefix: &Prefix,
-    ways: &mut BTreeMap<Via, Offer>,
+    ways: &mut BTreeMap<Via, PathAttrs>,
 ) -> Result<(), AllocError>
-    requires { IsIndexed seats.now.entries ranks.now.keys }
-    ensures { OnOk result (AddsWays seats.now.entries prefix.now ways.old.entries ways.new.entries) }
+    requires { IsIndexed paths.now.entries ranks.now.keys }
+    ensures { OnOk result (AddsWays paths.now.entries prefix.now ways.old.entries ways.new.entries) }
 {
     for rank in ranks.range(Rank::first(prefix)..) {
         if *prefix != rank.prefix() {
             return Ok(());
         }
-        add_ranked(seats, rank, ways)?;
+        add_ranked(paths, rank, ways)?;
     }
     Ok(())
 }
 
 /// Adds the offer of a rank, if it has one.
 fn add_ranked(
-    seats: &BTreeMap<Seat, Option<Offer>>,
+    paths: &BTreeMap<PathKey, Option<PathAttrs>>,
     rank: &Rank,
-    ways: &mut BTreeMap<Via, Offer>,
+    ways: &mut BTreeMap<Via, PathAttrs>,
 ) -> Result<(), AllocError>
-    ensures { OnOk result ((v : code.Via) → way_offer ways.new.entries v ≡ way_put (Some rank.now.via)
-        (ranked seats.now.entries rank.now) v (way_offer ways.old.entries v)) }
+    ensures { OnOk result ((v : code.Via) → way_attrs ways.new.entries v ≡ way_put (Some rank.now.via)
+        (ranked paths.now.entries rank.now) v (way_attrs ways.old.entries v)) }
 {
-    if let Some(offer) = offer_ranked(seats, rank) {
-        ways.insert(rank.via(), offer)?;
+    if let Some(attrs) = attrs_ranked(paths, rank) {
+        ways.insert(rank.via(), attrs)?;
     }
     Ok(())
 }
 
-/// The next hop of the preferred one of the route by a way and that of the others.
-pub fn better_hop(via: Via, own: Option<Offer>, others: &Option<Candidate>) -> Option<Addr>
+/// The next hop of the preferred one of the route by a path source and that of the others.
+pub fn better_hop(via: Via, own: Option<PathAttrs>, others: &Option<Candidate>) -> Option<Addr>
     ensures { result ≡ better_of via own others.now }
 {
     match (own, others) {
         (None, None) => None,
-        (Some(offer), None) => Some(offer.hop()),
-        (None, Some(other)) => Some(other.offer.hop()),
-        (Some(offer), Some(other)) => {
-            let is_own = offer.path() < other.offer.path()
-                || (offer.path() == other.offer.path() && via < other.via);
+        (Some(attrs), None) => Some(attrs.hop()),
+        (None, Some(other)) => Some(other.attrs.hop()),
+        (Some(attrs), Some(other)) => {
+            let is_own = attrs.path() < other.attrs.path()
+                || (attrs.path() == other.attrs.path() && via < other.via);
             Some(if is_own {
-                offer.hop()
+                attrs.hop()
             } else {
-                other.offer.hop()
+                other.attrs.hop()
             })
         }
     }
@@ -174,89 +177,97 @@ pub fn better_hop(via: Via, own: Option<Offer>, others: &Option<Candidate>) -> O
 /// A cut for each route of a peer that lies here, in the order of prefixes, then of path identifiers.
 pub fn over_cuts(
     alloc: Global,
-    seats: &BTreeMap<Seat, Option<Offer>>,
+    paths: &BTreeMap<PathKey, Option<PathAttrs>>,
     peer: Peer,
 ) -> Result<Vec<Elem>, AllocError>
-    ensures cuts { IfOk result (λ cuts. cuts.items ≡ cuts_in (seats_of peer seats.now.entries)) }
-    ensures ordered { tree.IsOrdered seat_cmp seats.now }
+    ensures cuts { IfOk result (λ cuts. cuts.items ≡ cuts_in (paths_of peer paths.now.entries)) }
+    ensures ordered { tree.IsOrdered key_cmp paths.now }
 {
     let mut cuts = Vec::new(alloc);
-    for (seat, offer) in seats.range(Seat::first(&peer)..) {
-        if peer != seat.peer() {
+    for (key, attrs) in paths.range(PathKey::first(&peer)..) {
+        if peer != key.peer() {
             return Ok(cuts);
         }
-        if offer.is_some() {
-            cuts.push(Elem::Cut(seat.via(), seat.prefix()))?;
+        if attrs.is_some() {
+            cuts.push(Elem::Cut(key.via(), key.prefix()))?;
         }
     }
     Ok(cuts)
 }
 
-/// Sets what is offered at a seat, which is there if anything is to be.
-fn set_offer(seats: &mut BTreeMap<Seat, Option<Offer>>, seat: &Seat, offer: Option<Offer>)
-    requires { (o : Offer) → offer ≡ Some o → has_seat seats.old.entries seat.now ≡ true }
-    ensures offers { (s : Seat) → offered seats.new.entries s
-        ≡ cond (is_eq (seat_cmp seat.now s)) offer (offered seats.old.entries s) }
-    ensures seats { (s : Seat) → has_seat seats.new.entries s
-        ≡ cond (is_eq (seat_cmp seat.now s)) (is_some offer) (has_seat seats.old.entries s) }
+/// Sets what is offered at a path key, which is there if anything is to be.
+fn set_attrs(
+    paths: &mut BTreeMap<PathKey, Option<PathAttrs>>,
+    key: &PathKey,
+    attrs: Option<PathAttrs>,
+)
+    requires { (o : PathAttrs) → attrs ≡ Some o → has_key paths.old.entries key.now ≡ true }
+    ensures offers { (s : PathKey) → offered paths.new.entries s
+        ≡ cond (is_eq (key_cmp key.now s)) attrs (offered paths.old.entries s) }
+    ensures paths { (s : PathKey) → has_key paths.new.entries s
+        ≡ cond (is_eq (key_cmp key.now s)) (is_some attrs) (has_key paths.old.entries s) }
 {
-    if offer.is_none() {
-        seats.remove(seat);
-    } else if let Some(place) = seats.get_mut(seat) {
-        *place = offer;
+    if attrs.is_none() {
+        paths.remove(key);
+    } else if let Some(place) = paths.get_mut(key) {
+        *place = attrs;
     }
 }
 
 /// Carries out an elementary event for which there is room.
-pub fn carry_out(seats: &mut BTreeMap<Seat, Option<Offer>>, ranks: &mut BTreeSet<Rank>, elem: &Elem)
-    requires { IsKept seats.old.entries ranks.old.keys None (Some elem.now) }
-    ensures offers { (s : Seat) → offered seats.new.entries s
-        ≡ cond (is_eq (seat_cmp (seat_in elem.now) s)) (offer_in elem.now)
-        (offered seats.old.entries s) }
-    ensures kept { IsKept seats.new.entries ranks.new.keys None None }
+pub fn carry_out(
+    paths: &mut BTreeMap<PathKey, Option<PathAttrs>>,
+    ranks: &mut BTreeSet<Rank>,
+    elem: &Elem,
+)
+    requires { PathsAreKept paths.old.entries ranks.old.keys None (Some elem.now) }
+    ensures offers { (s : PathKey) → offered paths.new.entries s
+        ≡ cond (is_eq (key_cmp (key_in elem.now) s)) (attrs_in elem.now)
+        (offered paths.old.entries s) }
+    ensures kept { PathsAreKept paths.new.entries ranks.new.keys None None }
 {
-    let seat = seat_of(elem);
-    let old = offer_at(seats, &seat);
-    set_offer(seats, &seat, offer_of(elem));
+    let key = key_of(elem);
+    let old = attrs_at(paths, &key);
+    set_attrs(paths, &key, attrs_of(elem));
     if let Some(old) = old {
-        prune_rank(seats, ranks, &seat.rank(old.path()));
+        prune_rank(paths, ranks, &key.rank(old.path()));
     }
 }
 
 /// Removes a rank that no offer has.
-fn prune_rank(seats: &BTreeMap<Seat, Option<Offer>>, ranks: &mut BTreeSet<Rank>, rank: &Rank)
-    ensures indexed { IsIndexed seats.now.entries ranks.old.keys
-        → IsIndexed seats.now.entries ranks.new.keys }
-    ensures serve { (held : Rank → Bool) → EachRankServes seats.now.entries ranks.old.keys
+fn prune_rank(paths: &BTreeMap<PathKey, Option<PathAttrs>>, ranks: &mut BTreeSet<Rank>, rank: &Rank)
+    ensures indexed { IsIndexed paths.now.entries ranks.old.keys
+        → IsIndexed paths.now.entries ranks.new.keys }
+    ensures serve { (held : Rank → Bool) → EachRankServes paths.now.entries ranks.old.keys
         (λ r. is_eq (rank_cmp rank.now r) || held r)
-        → EachRankServes seats.now.entries ranks.new.keys held }
+        → EachRankServes paths.now.entries ranks.new.keys held }
     ensures others { (r : Rank) → is_eq (rank_cmp rank.now r) ≡ false
         → has_rank ranks.new.keys r ≡ has_rank ranks.old.keys r }
 {
-    if offer_ranked(seats, rank).is_none() {
+    if attrs_ranked(paths, rank).is_none() {
         ranks.remove(rank);
     }
 }
 
-/// Removes a seat where nothing is offered.
-fn prune_seat(seats: &mut BTreeMap<Seat, Option<Offer>>, seat: &Seat)
-    ensures offers { (s : Seat) → offered seats.new.entries s ≡ offered seats.old.entries s }
-    ensures serve { (held : Seat → Bool) → EachSeatServes seats.old.entries
-        (λ s. is_eq (seat_cmp seat.now s) || held s) → EachSeatServes seats.new.entries held }
-    ensures others { (s : Seat) → is_eq (seat_cmp seat.now s) ≡ false
-        → has_seat seats.new.entries s ≡ has_seat seats.old.entries s }
+/// Removes a path key where nothing is offered.
+fn prune_key(paths: &mut BTreeMap<PathKey, Option<PathAttrs>>, key: &PathKey)
+    ensures offers { (s : PathKey) → offered paths.new.entries s ≡ offered paths.old.entries s }
+    ensures serve { (held : PathKey → Bool) → EachKeyServes paths.old.entries
+        (λ s. is_eq (key_cmp key.now s) || held s) → EachKeyServes paths.new.entries held }
+    ensures others { (s : PathKey) → is_eq (key_cmp key.now s) ≡ false
+        → has_key paths.new.entries s ≡ has_key paths.old.entries s }
 {
-    if offer_at(seats, seat).is_none() {
-        seats.remove(seat);
+    if attrs_at(paths, key).is_none() {
+        paths.remove(key);
     }
 }
 
-/// Whether the seat is held for the plan.
-fn holds_seat(plan: &Option<Elem>, seat: &Seat) -> bool
-    ensures { result ≡ seat_held plan.now seat.now }
+/// Whether the path key is held for the plan.
+fn holds_key(plan: &Option<Elem>, key: &PathKey) -> bool
+    ensures { result ≡ key_held plan.now key.now }
 {
     match plan {
-        Some(Elem::Put(via, prefix, _, _)) => Seat::new(via, prefix) == *seat,
+        Some(Elem::Put(via, prefix, _, _)) => PathKey::new(via, prefix) == *key,
         _ => false,
     }
 }
@@ -266,62 +277,66 @@ fn holds_rank(plan: &Option<Elem>, rank: &Rank) -> bool
     ensures { result ≡ rank_held plan.now rank.now }
 {
     match plan {
-        Some(Elem::Put(via, prefix, path, _)) => Seat::new(via, prefix).rank(*path) == *rank,
+        Some(Elem::Put(via, prefix, path, _)) => PathKey::new(via, prefix).rank(*path) == *rank,
         _ => false,
     }
 }
 
 /// Gives back a rank of an earlier plan: removes it, but for an offer's and the plan's.
 fn give_back_rank(
-    seats: &BTreeMap<Seat, Option<Offer>>,
+    paths: &BTreeMap<PathKey, Option<PathAttrs>>,
     ranks: &mut BTreeSet<Rank>,
     rank: &Rank,
     plan: &Option<Elem>,
 )
-    ensures indexed { IsIndexed seats.now.entries ranks.old.keys
-        → IsIndexed seats.now.entries ranks.new.keys }
-    ensures serve { EachRankServes seats.now.entries ranks.old.keys
+    ensures indexed { IsIndexed paths.now.entries ranks.old.keys
+        → IsIndexed paths.now.entries ranks.new.keys }
+    ensures serve { EachRankServes paths.now.entries ranks.old.keys
         (λ r. is_eq (rank_cmp rank.now r) || rank_held plan.now r)
-        → EachRankServes seats.now.entries ranks.new.keys (rank_held plan.now) }
-    ensures room { HasRoom seats.now.entries ranks.old.keys plan.now
-        → HasRoom seats.now.entries ranks.new.keys plan.now }
+        → EachRankServes paths.now.entries ranks.new.keys (rank_held plan.now) }
+    ensures room { OfferHasRoom paths.now.entries ranks.old.keys plan.now
+        → OfferHasRoom paths.now.entries ranks.new.keys plan.now }
 {
     if !holds_rank(plan, rank) {
-        prune_rank(seats, ranks, rank);
+        prune_rank(paths, ranks, rank);
     }
 }
 
-/// Gives back a seat of an earlier plan: removes it, but where something is offered and for the plan.
-fn give_back_seat(seats: &mut BTreeMap<Seat, Option<Offer>>, seat: &Seat, plan: &Option<Elem>)
-    ensures offers { (s : Seat) → offered seats.new.entries s ≡ offered seats.old.entries s }
-    ensures serve { EachSeatServes seats.old.entries (λ s. is_eq (seat_cmp seat.now s)
-        || seat_held plan.now s) → EachSeatServes seats.new.entries (seat_held plan.now) }
-    ensures room { (ranks : List Rank) → HasRoom seats.old.entries ranks plan.now
-        → HasRoom seats.new.entries ranks plan.now }
+/// Gives back a path key of an earlier plan: removes it, but where something is offered and for the plan.
+fn give_back_key(
+    paths: &mut BTreeMap<PathKey, Option<PathAttrs>>,
+    key: &PathKey,
+    plan: &Option<Elem>,
+)
+    ensures offers { (s : PathKey) → offered paths.new.entries s ≡ offered paths.old.entries s }
+    ensures serve { EachKeyServes paths.old.entries (λ s. is_eq (key_cmp key.now s)
+        || key_held plan.now s) → EachKeyServes paths.new.entries (key_held plan.now) }
+    ensures room { (ranks : List Rank) → OfferHasRoom paths.old.entries ranks plan.now
+        → OfferHasRoom paths.new.entries ranks plan.now }
 {
-    if !holds_seat(plan, seat) {
-        prune_seat(seats, seat);
+    if !holds_key(plan, key) {
+        prune_key(paths, key);
     }
 }
 
 /// Gives back the room of an earlier plan.
 pub fn give_back(
-    seats: &mut BTreeMap<Seat, Option<Offer>>,
+    paths: &mut BTreeMap<PathKey, Option<PathAttrs>>,
     ranks: &mut BTreeSet<Rank>,
     earlier: Option<Elem>,
     plan: &Option<Elem>,
 )
-    ensures offers { (s : Seat) → offered seats.new.entries s ≡ offered seats.old.entries s }
-    ensures kept { IsKept seats.old.entries ranks.old.keys earlier plan.now
-        → IsKept seats.new.entries ranks.new.keys None plan.now }
+    ensures offers { (s : PathKey) → offered paths.new.entries s ≡ offered paths.old.entries s }
+    ensures kept { PathsAreKept paths.old.entries ranks.old.keys earlier plan.now
+        → PathsAreKept paths.new.entries ranks.new.keys None plan.now }
 {
     let Some(earlier) = earlier else {
         return;
     };
     if let Elem::Put(via, prefix, path, _) = earlier {
-        let seat = Seat::new(&via, &prefix);
-        give_back_rank(seats, ranks, &seat.rank(path), plan);
-        give_back_seat(seats, &seat, plan);
+        let key = PathKey::new(&via, &prefix);
+        give_back_rank(paths, ranks, &key.rank(path), plan);
+        give_back_key(paths, &key, plan);
     }
 }
 
@@ -335,25 +350,25 @@ fn take_back(ranks: &mut BTreeSet<Rank>, rank: &Rank, is_new: bool)
     }
 }
 
-/// Makes room for a seat and a rank, where they aren't there. An `Err` leaves both as they were.
+/// Makes room for a path key and a rank, where they aren't there. An `Err` leaves both as they were.
 fn make_room(
-    seats: &mut BTreeMap<Seat, Option<Offer>>,
+    paths: &mut BTreeMap<PathKey, Option<PathAttrs>>,
     ranks: &mut BTreeSet<Rank>,
-    seat: &Seat,
+    key: &PathKey,
     rank: &Rank,
 ) -> Result<(), AllocError>
-    ensures offers { (s : Seat) → offered seats.new.entries s ≡ offered seats.old.entries s }
-    ensures seats { OnOk result ((s : Seat) → has_seat seats.new.entries s
-        ≡ cond (is_eq (seat_cmp seat.now s)) true (has_seat seats.old.entries s)) }
+    ensures offers { (s : PathKey) → offered paths.new.entries s ≡ offered paths.old.entries s }
+    ensures paths { OnOk result ((s : PathKey) → has_key paths.new.entries s
+        ≡ cond (is_eq (key_cmp key.now s)) true (has_key paths.old.entries s)) }
     ensures ranks { OnOk result ((r : Rank) → has_rank ranks.new.keys r
         ≡ cond (is_eq (rank_cmp rank.now r)) true (has_rank ranks.old.keys r)) }
-    ensures err_seats { OnErr result (seats.new.entries ≡ seats.old.entries) }
+    ensures err_paths { OnErr result (paths.new.entries ≡ paths.old.entries) }
     ensures err_ranks { OnErr result ((r : Rank) → has_rank ranks.new.keys r
         ≡ has_rank ranks.old.keys r) }
 {
     let is_new = ranks.insert(*rank)?;
-    if seats.get(seat).is_none() {
-        match seats.insert(*seat, None) {
+    if paths.get(key).is_none() {
+        match paths.insert(*key, None) {
             Ok(_) => {}
             Err(failed) => {
                 take_back(ranks, rank, is_new);
@@ -366,44 +381,44 @@ fn make_room(
 
 /// Makes room for what an elementary event offers, beside that of the plan before it. An `Err` leaves all as it was.
 pub fn make_room_for(
-    seats: &mut BTreeMap<Seat, Option<Offer>>,
+    paths: &mut BTreeMap<PathKey, Option<PathAttrs>>,
     ranks: &mut BTreeSet<Rank>,
     elem: &Elem,
 ) -> Result<(), AllocError>
-    ensures offers { (s : Seat) → offered seats.new.entries s ≡ offered seats.old.entries s }
-    ensures kept { OnOk result (KeepsBeside seats.old.entries ranks.old.keys seats.new.entries
+    ensures offers { (s : PathKey) → offered paths.new.entries s ≡ offered paths.old.entries s }
+    ensures kept { OnOk result (KeepsBeside paths.old.entries ranks.old.keys paths.new.entries
         ranks.new.keys (Some elem.now)) }
-    ensures err { OnErr result (StaysKept seats.old.entries ranks.old.keys seats.new.entries
+    ensures err { OnErr result (StaysKept paths.old.entries ranks.old.keys paths.new.entries
         ranks.new.keys) }
 {
     match *elem {
         Elem::Put(via, prefix, path, _) => {
-            let seat = Seat::new(&via, &prefix);
-            make_room(seats, ranks, &seat, &seat.rank(path))
+            let key = PathKey::new(&via, &prefix);
+            make_room(paths, ranks, &key, &key.rank(path))
         }
         Elem::Cut(_, _) => Ok(()),
     }
 }
 
-/// Offers something at a seat, beside the room of the plan. An `Err` leaves all as it was.
-pub fn put_offer(
-    seats: &mut BTreeMap<Seat, Option<Offer>>,
+/// Offers something at a path key, beside the room of the plan. An `Err` leaves all as it was.
+pub fn put_attrs(
+    paths: &mut BTreeMap<PathKey, Option<PathAttrs>>,
     ranks: &mut BTreeSet<Rank>,
-    seat: &Seat,
-    offer: Offer,
+    key: &PathKey,
+    attrs: PathAttrs,
 ) -> Result<(), AllocError>
-    ensures ok { OnOk result ((s : Seat) → offered seats.new.entries s
-        ≡ cond (is_eq (seat_cmp seat.now s)) (Some offer) (offered seats.old.entries s)) }
-    ensures kept { OnOk result (KeepsBeside seats.old.entries ranks.old.keys seats.new.entries
+    ensures ok { OnOk result ((s : PathKey) → offered paths.new.entries s
+        ≡ cond (is_eq (key_cmp key.now s)) (Some attrs) (offered paths.old.entries s)) }
+    ensures kept { OnOk result (KeepsBeside paths.old.entries ranks.old.keys paths.new.entries
         ranks.new.keys None) }
-    ensures err_offers { OnErr result ((s : Seat) → offered seats.new.entries s
-        ≡ offered seats.old.entries s) }
-    ensures err { OnErr result (StaysKept seats.old.entries ranks.old.keys seats.new.entries
+    ensures err_offers { OnErr result ((s : PathKey) → offered paths.new.entries s
+        ≡ offered paths.old.entries s) }
+    ensures err { OnErr result (StaysKept paths.old.entries ranks.old.keys paths.new.entries
         ranks.new.keys) }
 {
-    let rank = seat.rank(offer.path());
+    let rank = key.rank(attrs.path());
     let is_new = ranks.insert(rank)?;
-    let old = match seats.insert(*seat, Some(offer)) {
+    let old = match paths.insert(*key, Some(attrs)) {
         Ok(old) => old.flatten(),
         Err(failed) => {
             take_back(ranks, &rank, is_new);
@@ -411,19 +426,23 @@ pub fn put_offer(
         }
     };
     if let Some(old) = old {
-        prune_rank(seats, ranks, &seat.rank(old.path()));
+        prune_rank(paths, ranks, &key.rank(old.path()));
     }
     Ok(())
 }
 
-/// Ends what is offered at a seat, beside the room of the plan.
-pub fn cut_offer(seats: &mut BTreeMap<Seat, Option<Offer>>, ranks: &mut BTreeSet<Rank>, seat: &Seat)
-    ensures offers { (s : Seat) → offered seats.new.entries s
-        ≡ cond (is_eq (seat_cmp seat.now s)) None (offered seats.old.entries s) }
-    ensures kept { KeepsBeside seats.old.entries ranks.old.keys seats.new.entries ranks.new.keys
+/// Ends what is offered at a path key, beside the room of the plan.
+pub fn cut_attrs(
+    paths: &mut BTreeMap<PathKey, Option<PathAttrs>>,
+    ranks: &mut BTreeSet<Rank>,
+    key: &PathKey,
+)
+    ensures offers { (s : PathKey) → offered paths.new.entries s
+        ≡ cond (is_eq (key_cmp key.now s)) None (offered paths.old.entries s) }
+    ensures kept { KeepsBeside paths.old.entries ranks.old.keys paths.new.entries ranks.new.keys
         None }
 {
-    if let Some(old) = seats.remove(seat).flatten() {
-        prune_rank(seats, ranks, &seat.rank(old.path()));
+    if let Some(old) = paths.remove(key).flatten() {
+        prune_rank(paths, ranks, &key.rank(old.path()));
     }
 }

@@ -5,7 +5,7 @@ ghost use Rattle.route_choice.specs.Space.{over_of as over};
 
 use fib_prefix::Elem;
 
-/// The elementary event that was planned last, with the place of its slot in the base, if its seat has one, and the number of its
+/// The elementary event that was planned last, with the place of its slot in the base, if its path key has one, and the number of its
 /// prefix's row as a guess.
 #[derive(Clone, Copy)]
 pub struct Plan {
@@ -17,7 +17,7 @@ pub struct Plan {
     pub row: usize,
 }
 
-/// The event for which a plan holds room in the ordered maps: none where its seat has a slot in the base.
+/// The event for which a plan holds room in the ordered maps: none where its path key has a slot in the base.
 pub fn over_of(plan: &Option<Plan>) -> Option<Elem>
     ensures { result ≡ over plan.now }
 {

@@ -5,8 +5,8 @@ ghost use Rattle.std.specs.List.Sorted.{IsStrictlySortedBy};
 ghost use Rattle.fib_addr.specs.Order.{code_cmp};
 ghost use Rattle.route_choice.specs.Walks.{HasRows, HasRanks, row_prefixes, rank_prefixes};
 
+use adj_rib_in::{Flat, Rank};
 use fib_prefix::Prefix;
-use flat_base::{Flat, Rank};
 use std::alloc::{AllocError, Global};
 use std::collections::BTreeSet;
 

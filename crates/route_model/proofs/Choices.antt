@@ -16,12 +16,12 @@ use Rattle.table_model.specs.Order.{prefix_cmp}
 use Rattle.table_model.proofs.SamePrefix.{same_prefix_is, same_prefix_itself}
 use Rattle.table_model.proofs.Ordered.{equal_are_same}
 use Rattle.route_model.specs.Events.{via_cmp}
-use Rattle.route_model.specs.Choice.{Place, Offer, Candidates, AreCandidates, IsHeld, IsPlace, same_place, place_cmp, choice_cmp, beats, is_chosen, chosen_in, IsChosen, routes_of, chosen_for}
+use Rattle.route_model.specs.Choice.{Place, PathAttrs, Candidates, AreCandidates, IsHeld, IsPlace, same_place, place_cmp, choice_cmp, beats, is_chosen, chosen_in, IsChosen, routes_of, chosen_for}
 use Rattle.route_model.proofs.Keyed.{found_meets, found_later, found_fails, none_passes, lookup-filter, sorted_filter, all_filter}
 use Rattle.route_model.proofs.Places.{place_key, via_total, via_exact, both_equal}
 
 choice_total : IsTotalOrder choice_cmp
-choice_total = then_total (on_total (λ (c : Place × Offer). c.1.path) nat_cmp_total) (on_total (λ (c : Place × Offer). c.0.via) via_total)
+choice_total = then_total (on_total (λ (c : Place × PathAttrs). c.1.path) nat_cmp_total) (on_total (λ (c : Place × PathAttrs). c.0.via) via_total)
 
 flipped : (o : Ordering) → is_gt (ordering_reverse o) ≡ is_lt o
 flipped Less = refl
@@ -29,17 +29,17 @@ flipped Equal = refl
 flipped Greater = refl
 
 -- one beats another where the other comes after it
-pub beats_flipped : (c d : Place × Offer) → is_gt (choice_cmp d c) ≡ beats c d
+pub beats_flipped : (c d : Place × PathAttrs) → is_gt (choice_cmp d c) ≡ beats c d
 beats_flipped c d = ap is_gt (choice_total.antisymm d c) ∙ flipped (choice_cmp c d)
 
 -- what neither beats the second, nor the second the third, doesn't beat the third
-pub not_beaten : (c d e : Place × Offer) → beats d c ≡ false → beats e d ≡ false → beats e c ≡ false
+pub not_beaten : (c d e : Place × PathAttrs) → beats d c ≡ false → beats e d ≡ false → beats e c ≡ false
 not_beaten c d e h g = sym (beats_flipped e c) ∙ upto choice_total c d e (beats_flipped d c ∙ h) (beats_flipped e d ∙ g)
 
-pub not_itself : (c : Place × Offer) → beats c c ≡ false
+pub not_itself : (c : Place × PathAttrs) → beats c c ≡ false
 not_itself c = ap is_lt (tied_itself choice_total c)
 
-pub not_back : (c d : Place × Offer) → beats d c ≡ true → beats c d ≡ false
+pub not_back : (c d : Place × PathAttrs) → beats d c ≡ true → beats c d ≡ false
 not_back c d h = by_order (choice_cmp d c) refl h
   where
     by_order : (o : Ordering) → choice_cmp d c ≡ o → is_lt o ≡ true → beats c d ≡ false
@@ -49,15 +49,15 @@ not_back c d h = by_order (choice_cmp d c) refl h
 
 -- ---- there is a best one
 
-abbrev rivals : Prefix → Place × Offer → Place × Offer → Bool
+abbrev rivals : Prefix → Place × PathAttrs → Place × PathAttrs → Bool
 rivals p c d = same_prefix d.0.prefix p && beats d c
 
-record IsBest (held : Candidates) (p : Prefix) (c : Place × Offer) : Type 0 where
+record IsBest (held : Candidates) (p : Prefix) (c : Place × PathAttrs) : Type 0 where
   is_held : IsHeld held c
   prefix : same_prefix c.0.prefix p ≡ true
   alone : list_any (rivals p c) held ≡ false
 
-none_of : (p : Prefix) → (c d : Place × Offer) (held : Candidates) → beats d c ≡ false → list_any (rivals p d) held ≡ false → list_any (rivals p c) held ≡ false
+none_of : (p : Prefix) → (c d : Place × PathAttrs) (held : Candidates) → beats d c ≡ false → list_any (rivals p d) held ≡ false → list_any (rivals p c) held ≡ false
 none_of p c d [] h a = refl
 none_of p c d (e ∷ held) h a =
     let x = or_parts (rivals p d e) (list_any (rivals p d) held) a in
@@ -67,7 +67,7 @@ none_of p c d (e ∷ held) h a =
     by_test true g = not_beaten c d e h g
     by_test false g = refl
 
-best_of : (p : Prefix) (held : Candidates) → IsStrictlySortedBy place_cmp (keys_of held) → list_any (λ c. same_prefix c.0.prefix p) held ≡ true → (c : Place × Offer) × IsBest held p c
+best_of : (p : Prefix) (held : Candidates) → IsStrictlySortedBy place_cmp (keys_of held) → list_any (λ c. same_prefix c.0.prefix p) held ≡ true → (c : Place × PathAttrs) × IsBest held p c
 unfolding IsStrictlySortedBy
 best_of p [] s h = absurd cc
 best_of p (e ∷ held) s h = by_test (same_prefix e.0.prefix p) refl (list_any (λ c. same_prefix c.0.prefix p) held) refl h (best_of p held s.1)
@@ -85,7 +85,7 @@ best_of p (e ∷ held) s h = by_test (same_prefix e.0.prefix p) refl (list_any (
     alone_first true n = ap (λ x. x || list_any (rivals p e) held) (not_itself e) ∙ n
     alone_first false n = n
 
-    compare : (d : Place × Offer) → IsBest held p d → (t : Bool) → same_prefix e.0.prefix p ≡ t → (b : Bool) → beats e d ≡ b → (c : Place × Offer) × IsBest (e ∷ held) p c
+    compare : (d : Place × PathAttrs) → IsBest held p d → (t : Bool) → same_prefix e.0.prefix p ≡ t → (b : Bool) → beats e d ≡ b → (c : Place × PathAttrs) × IsBest (e ∷ held) p c
     compare d best true t true u =
         (e, record { is_held = here; prefix = t; alone = alone_first (same_prefix e.0.prefix p) (none_of p e d held (not_back d e u) best.alone) })
     compare d best true t false u =
@@ -94,7 +94,7 @@ best_of p (e ∷ held) s h = by_test (same_prefix e.0.prefix p) refl (list_any (
         (d, record { is_held = found_later place_key d.0 d.1 e held s best.is_held; prefix = best.prefix; alone = ap (λ x. (x && beats e d) || list_any (rivals p d) held) t ∙ best.alone })
 
     by_test : (t : Bool) → same_prefix e.0.prefix p ≡ t → (n : Bool) → list_any (λ c. same_prefix c.0.prefix p) held ≡ n → (t || n) ≡ true
-        → (list_any (λ c. same_prefix c.0.prefix p) held ≡ true → (c : Place × Offer) × IsBest held p c) → (c : Place × Offer) × IsBest (e ∷ held) p c
+        → (list_any (λ c. same_prefix c.0.prefix p) held ≡ true → (c : Place × PathAttrs) × IsBest held p c) → (c : Place × PathAttrs) × IsBest (e ∷ held) p c
     by_test t g true n x ih = let r = ih n in compare r.0 r.1 t g (beats e r.0) refl
     by_test true g false n x ih =
         (e, record { is_held = here; prefix = g; alone = alone_first (same_prefix e.0.prefix p) (none_there held n) })
@@ -102,26 +102,26 @@ best_of p (e ∷ held) s h = by_test (same_prefix e.0.prefix p) refl (list_any (
 
 -- ---- the chosen ones
 
-pub chosen_from : (held : Candidates) (c : Place × Offer) → AreCandidates held → IsHeld held c → is_chosen held c ≡ true → IsChosen held c
+pub chosen_from : (held : Candidates) (c : Place × PathAttrs) → AreCandidates held → IsHeld held c → is_chosen held c ≡ true → IsChosen held c
 chosen_from held c a h t =
     lookup-filter place_key (is_chosen held) c.0 held a.1 ∙ (ap (option_and_then (λ v. cond (is_chosen held (c.0, v)) (Some v) None)) h ∙ ap (λ b. cond b (Some c.1) None) t)
 
-pub chosen_parts : (held : Candidates) (c : Place × Offer) → AreCandidates held → IsChosen held c → IsHeld held c × (is_chosen held c ≡ true)
+pub chosen_parts : (held : Candidates) (c : Place × PathAttrs) → AreCandidates held → IsChosen held c → IsHeld held c × (is_chosen held c ≡ true)
 chosen_parts held c a h = by_found (lookup (same_place c.0) held) refl (sym (lookup-filter place_key (is_chosen held) c.0 held a.1) ∙ h)
   where
-    by_test : (v : Offer) → (b : Bool) → is_chosen held (c.0, v) ≡ b → lookup (same_place c.0) held ≡ Some v → cond b (Some v) None ≡ Some c.1 → IsHeld held c × (is_chosen held c ≡ true)
+    by_test : (v : PathAttrs) → (b : Bool) → is_chosen held (c.0, v) ≡ b → lookup (same_place c.0) held ≡ Some v → cond b (Some v) None ≡ Some c.1 → IsHeld held c × (is_chosen held c ≡ true)
     by_test v true t f e = let i : v ≡ c.1 = cc in (f ∙ ap Some i, ap (λ y. is_chosen held (c.0, y)) (sym i) ∙ t)
     by_test v false t f e = absurd cc
 
-    by_found : (o : Option Offer) → lookup (same_place c.0) held ≡ o → option_and_then (λ v. cond (is_chosen held (c.0, v)) (Some v) None) o ≡ Some c.1 → IsHeld held c × (is_chosen held c ≡ true)
+    by_found : (o : Option PathAttrs) → lookup (same_place c.0) held ≡ o → option_and_then (λ v. cond (is_chosen held (c.0, v)) (Some v) None) o ≡ Some c.1 → IsHeld held c × (is_chosen held c ≡ true)
     by_found None f e = absurd cc
     by_found (Some v) f e = by_test v (is_chosen held (c.0, v)) refl f e
 
-pub chosen_is_held : (held : Candidates) (c : Place × Offer) → AreCandidates held → IsChosen held c → IsHeld held c
+pub chosen_is_held : (held : Candidates) (c : Place × PathAttrs) → AreCandidates held → IsChosen held c → IsHeld held c
 chosen_is_held held c a h = (chosen_parts held c a h).0
 
 -- no candidate of its prefix beats it
-pub chosen_wins : (held : Candidates) (c d : Place × Offer) → AreCandidates held → IsChosen held c → IsHeld held d → c.0.prefix ≡ d.0.prefix → beats d c ≡ false
+pub chosen_wins : (held : Candidates) (c d : Place × PathAttrs) → AreCandidates held → IsChosen held c → IsHeld held d → c.0.prefix ≡ d.0.prefix → beats d c ≡ false
 chosen_wins held c d a h g e =
     let x : list_any (λ f. same_prefix f.0.prefix c.0.prefix && beats f c) held ≡ false = not-true _ (chosen_parts held c a h).1 in
     let y : (same_prefix d.0.prefix c.0.prefix && beats d c) ≡ false = found_fails place_key (λ f. same_prefix f.0.prefix c.0.prefix && beats f c) d.0 d.1 held x g in
@@ -129,7 +129,7 @@ chosen_wins held c d a h g e =
     ap (λ b. b && beats d c) (sym z) ∙ y
 
 -- where any is held for a prefix, one is chosen
-pub one_is_chosen : (held : Candidates) (c : Place × Offer) → AreCandidates held → IsHeld held c → (d : Place × Offer) × IsChosen held d × (d.0.prefix ≡ c.0.prefix)
+pub one_is_chosen : (held : Candidates) (c : Place × PathAttrs) → AreCandidates held → IsHeld held c → (d : Place × PathAttrs) × IsChosen held d × (d.0.prefix ≡ c.0.prefix)
 one_is_chosen held c a h =
     let p = c.0.prefix in
     let found : list_any (λ d. same_prefix d.0.prefix p) held ≡ true = by_test (list_any (λ d. same_prefix d.0.prefix p) held) refl in
@@ -143,7 +143,7 @@ one_is_chosen held c a h =
         let x : same_prefix c.0.prefix c.0.prefix ≡ false = found_fails place_key (λ d. same_prefix d.0.prefix c.0.prefix) c.0 c.1 held n h in
         let y : same_prefix c.0.prefix c.0.prefix ≡ true = same_prefix_itself c.0.prefix in absurd cc
 
-pub one_alone : (held : Candidates) (c d : Place × Offer) → AreCandidates held → IsChosen held c → IsChosen held d → c.0.prefix ≡ d.0.prefix → c ≡ d
+pub one_alone : (held : Candidates) (c d : Place × PathAttrs) → AreCandidates held → IsChosen held c → IsChosen held d → c.0.prefix ≡ d.0.prefix → c ≡ d
 one_alone held c d a h g e = by_order (choice_cmp c d) refl
   where
     x : beats d c ≡ false
@@ -152,7 +152,7 @@ one_alone held c d a h g e = by_order (choice_cmp c d) refl
     y : beats c d ≡ false
     y = chosen_wins held d c a g (chosen_is_held held c a h) (sym e)
 
-    same_value : (v w : Offer) → Some v ≡ Some w → v ≡ w
+    same_value : (v w : PathAttrs) → Some v ≡ Some w → v ≡ w
     same_value v w i = cc
 
     by_order : (o : Ordering) → choice_cmp c d ≡ o → c ≡ d
@@ -166,9 +166,9 @@ one_alone held c d a h g e = by_order (choice_cmp c d) refl
         let j : c.0 ≡ d.0 = ap (λ z. let r : Place = record { prefix = z; via = c.0.via } in r) e ∙ ap (λ z. let r : Place = record { prefix = d.0.prefix; via = z } in r) i in
         let k : Some c.1 ≡ Some d.1 = sym h ∙ (ap (λ z. lookup (same_place z) (chosen_in held)) j ∙ g) in
         let l : c.1 ≡ d.1 = same_value c.1 d.1 k in
-        ap (λ (z : Place). (z, c.1)) j ∙ ap (λ (z : Offer). (d.0, z)) l
+        ap (λ (z : Place). (z, c.1)) j ∙ ap (λ (z : PathAttrs). (d.0, z)) l
 
-pub least_path : (held : Candidates) (c d : Place × Offer) → AreCandidates held → IsChosen held c → IsHeld held d → c.0.prefix ≡ d.0.prefix → c.1.path ≤ d.1.path
+pub least_path : (held : Candidates) (c d : Place × PathAttrs) → AreCandidates held → IsChosen held c → IsHeld held d → c.0.prefix ≡ d.0.prefix → c.1.path ≤ d.1.path
 least_path held c d a h g e = by_order (nat_cmp d.1.path c.1.path) refl (chosen_wins held c d a h g e)
   where
     by_order : (o : Ordering) → nat_cmp d.1.path c.1.path ≡ o → is_lt (ordering_then o (via_cmp d.0.via c.0.via)) ≡ false → c.1.path ≤ d.1.path
@@ -176,7 +176,7 @@ least_path held c d a h g e = by_order (nat_cmp d.1.path c.1.path) refl (chosen_
     by_order Equal u w = let x : d.1.path ≡ c.1.path = ranked d.1.path c.1.path Equal (sym u) in omega (arith, x)
     by_order Greater u w = let x : c.1.path < d.1.path = ranked d.1.path c.1.path Greater (sym u) in omega (arith, x)
 
-pub least_via : (held : Candidates) (c d : Place × Offer) → AreCandidates held → IsChosen held c → IsHeld held d → c.0.prefix ≡ d.0.prefix → c.1.path ≡ d.1.path → via_cmp d.0.via c.0.via ≡ Less → ⊥
+pub least_via : (held : Candidates) (c d : Place × PathAttrs) → AreCandidates held → IsChosen held c → IsHeld held d → c.0.prefix ≡ d.0.prefix → c.1.path ≡ d.1.path → via_cmp d.0.via c.0.via ≡ Less → ⊥
 least_via held c d a h g e f l =
     let x : beats d c ≡ false = chosen_wins held c d a h g e in
     let y : nat_cmp d.1.path c.1.path ≡ Equal = ap (nat_cmp d.1.path) f ∙ tied_itself nat_cmp_total d.1.path in
@@ -185,15 +185,15 @@ least_via held c d a h g e f l =
 -- ---- the routes
 
 abbrev OnePerPrefix : Candidates → Type 0
-OnePerPrefix cs = (c d : Place × Offer) → IsHeld cs c → IsHeld cs d → c.0.prefix ≡ d.0.prefix → c ≡ d
+OnePerPrefix cs = (c d : Place × PathAttrs) → IsHeld cs c → IsHeld cs d → c.0.prefix ≡ d.0.prefix → c ≡ d
 
-one_later : (e : Place × Offer) (cs : Candidates) → IsStrictlySortedBy place_cmp (keys_of (e ∷ cs)) → OnePerPrefix (e ∷ cs) → OnePerPrefix cs
+one_later : (e : Place × PathAttrs) (cs : Candidates) → IsStrictlySortedBy place_cmp (keys_of (e ∷ cs)) → OnePerPrefix (e ∷ cs) → OnePerPrefix cs
 one_later e cs s o c d h g i = o c d (found_later place_key c.0 c.1 e cs s h) (found_later place_key d.0 d.1 e cs s g) i
 
-pub held_first : (e : Place × Offer) (cs : Candidates) → IsHeld (e ∷ cs) e
+pub held_first : (e : Place × PathAttrs) (cs : Candidates) → IsHeld (e ∷ cs) e
 held_first e cs = ap (λ b. cond b (Some e.1) (lookup (same_place e.0) cs)) (place_key.itself e.0)
 
-route_found : (cs : Candidates) (c : Place × Offer) → IsStrictlySortedBy place_cmp (keys_of cs) → OnePerPrefix cs → IsHeld cs c → lookup (same_prefix c.0.prefix) (map (λ d. (d.0.prefix, d.1.hop)) cs) ≡ Some c.1.hop
+route_found : (cs : Candidates) (c : Place × PathAttrs) → IsStrictlySortedBy place_cmp (keys_of cs) → OnePerPrefix cs → IsHeld cs c → lookup (same_prefix c.0.prefix) (map (λ d. (d.0.prefix, d.1.hop)) cs) ≡ Some c.1.hop
 unfolding IsStrictlySortedBy
 route_found [] c s o h = absurd cc
 route_found (e ∷ cs) c s o h = by_prefix (same_prefix c.0.prefix e.0.prefix) refl (route_found cs c s.1 (one_later e cs s o))
@@ -213,14 +213,14 @@ route_found (e ∷ cs) c s o h = by_prefix (same_prefix c.0.prefix e.0.prefix) r
         ap (λ z. Some z.1.hop) i
     by_prefix false t ih = ih (by_place (same_place c.0 e.0) refl t h)
 
-no_route : (cs : Candidates) (p : Prefix) → IsStrictlySortedBy place_cmp (keys_of cs) → ((c : Place × Offer) → IsHeld cs c → same_prefix p c.0.prefix ≡ false) → lookup (same_prefix p) (map (λ d. (d.0.prefix, d.1.hop)) cs) ≡ None
+no_route : (cs : Candidates) (p : Prefix) → IsStrictlySortedBy place_cmp (keys_of cs) → ((c : Place × PathAttrs) → IsHeld cs c → same_prefix p c.0.prefix ≡ false) → lookup (same_prefix p) (map (λ d. (d.0.prefix, d.1.hop)) cs) ≡ None
 unfolding IsStrictlySortedBy
 no_route [] p s h = refl
 no_route (e ∷ cs) p s h =
     ap (λ b. cond b (Some e.1.hop) (lookup (same_prefix p) (map (λ d. (d.0.prefix, d.1.hop)) cs))) (h e (held_first e cs))
     ∙ no_route cs p s.1 (λ c g. h c (found_later place_key c.0 c.1 e cs s g))
 
-above : (e : Place × Offer) (cs : Candidates) → IsStrictlySortedBy place_cmp (keys_of cs) → IsPlace e.0 → AllByRecursion IsPlace (keys_of cs) → AllByRecursion (λ q. place_cmp e.0 q ≡ Less) (keys_of cs) → ((c : Place × Offer) → IsHeld cs c → e.0.prefix ≡ c.0.prefix → ⊥)
+above : (e : Place × PathAttrs) (cs : Candidates) → IsStrictlySortedBy place_cmp (keys_of cs) → IsPlace e.0 → AllByRecursion IsPlace (keys_of cs) → AllByRecursion (λ q. place_cmp e.0 q ≡ Less) (keys_of cs) → ((c : Place × PathAttrs) → IsHeld cs c → e.0.prefix ≡ c.0.prefix → ⊥)
     → AllByRecursion (λ r. prefix_cmp e.0.prefix r ≡ Less) (keys_of (map (λ d. (d.0.prefix, d.1.hop)) cs))
 unfolding IsStrictlySortedBy
 above e [] s x a l n = tt
@@ -236,7 +236,7 @@ unfolding IsStrictlySortedBy
 routes_sorted_from [] s a o = tt
 routes_sorted_from (e ∷ cs) s a o = (above e cs s.1 a.0 a.1 s.0 alone, routes_sorted_from cs s.1 a.1 (one_later e cs s o))
   where
-    alone : (c : Place × Offer) → IsHeld cs c → e.0.prefix ≡ c.0.prefix → ⊥
+    alone : (c : Place × PathAttrs) → IsHeld cs c → e.0.prefix ≡ c.0.prefix → ⊥
     alone c h i =
         let j : e ≡ c = o e c (held_first e cs) (found_later place_key c.0 c.1 e cs s h) i in
         let k : place_cmp e.0 c.0 ≡ Less = found_meets place_key (λ q. place_cmp e.0 q ≡ Less) c.0 c.1 cs s.0 h in
@@ -253,20 +253,20 @@ pub routes_sorted : (held : Candidates) → AreCandidates held → IsStrictlySor
 routes_sorted held a = routes_sorted_from (chosen_in held) (chosen_sorted held a) (all_filter (is_chosen held) IsPlace held a.0) (one_per_prefix held a)
 
 -- the route of a prefix is its chosen candidate's
-pub chosen_for-chosen : (held : Candidates) (c : Place × Offer) → AreCandidates held → IsChosen held c → chosen_for held c.0.prefix ≡ Some c.1.hop
+pub chosen_for-chosen : (held : Candidates) (c : Place × PathAttrs) → AreCandidates held → IsChosen held c → chosen_for held c.0.prefix ≡ Some c.1.hop
 chosen_for-chosen held c a h = route_found (chosen_in held) c (chosen_sorted held a) (one_per_prefix held a) h
 
 -- and there is none where it has no candidate
-pub chosen_for-none : (held : Candidates) (p : Prefix) → AreCandidates held → ((c : Place × Offer) → IsHeld held c → same_prefix p c.0.prefix ≡ false) → chosen_for held p ≡ None
+pub chosen_for-none : (held : Candidates) (p : Prefix) → AreCandidates held → ((c : Place × PathAttrs) → IsHeld held c → same_prefix p c.0.prefix ≡ false) → chosen_for held p ≡ None
 chosen_for-none held p a h = no_route (chosen_in held) p (chosen_sorted held a) (λ c g. h c (chosen_is_held held c a g))
 
 -- a candidate that none of its prefix beats is its prefix's route
-pub chosen_for-best : (held : Candidates) (c : Place × Offer) → AreCandidates held → IsHeld held c → ((d : Place × Offer) → IsHeld held d → same_prefix d.0.prefix c.0.prefix ≡ true → beats d c ≡ false) → chosen_for held c.0.prefix ≡ Some c.1.hop
+pub chosen_for-best : (held : Candidates) (c : Place × PathAttrs) → AreCandidates held → IsHeld held c → ((d : Place × PathAttrs) → IsHeld held d → same_prefix d.0.prefix c.0.prefix ≡ true → beats d c ≡ false) → chosen_for held c.0.prefix ≡ Some c.1.hop
 chosen_for-best held c a h w =
     let alone : list_any (λ d. same_prefix d.0.prefix c.0.prefix && beats d c) held ≡ false = none_passes place_key (λ d. same_prefix d.0.prefix c.0.prefix && beats d c) held a.1 (λ q v g. by_test (q, v) g (same_prefix q.prefix c.0.prefix) refl) in
     chosen_for-chosen held c a (chosen_from held c a h (ap not alone))
   where
-    by_test : (d : Place × Offer) → IsHeld held d → (b : Bool) → same_prefix d.0.prefix c.0.prefix ≡ b → (b && beats d c) ≡ false
+    by_test : (d : Place × PathAttrs) → IsHeld held d → (b : Bool) → same_prefix d.0.prefix c.0.prefix ≡ b → (b && beats d c) ≡ false
     by_test d g true t = w d g t
     by_test d g false t = refl
 
@@ -274,7 +274,7 @@ chosen_for-best held c a h w =
 pub routes_hold : (held : Candidates) (p : Prefix) → AreCandidates held → is_some (chosen_for held p) ≡ list_any (λ c. same_prefix p c.0.prefix) held
 routes_hold held p a = by_test (list_any (λ c. same_prefix p c.0.prefix) held) refl
   where
-    unheld : chosen_for held p ≡ None → (c : Place × Offer) → IsHeld held c → (b : Bool) → same_prefix p c.0.prefix ≡ b → b ≡ false
+    unheld : chosen_for held p ≡ None → (c : Place × PathAttrs) → IsHeld held c → (b : Bool) → same_prefix p c.0.prefix ≡ b → b ≡ false
     unheld e c h true t =
         let r = one_is_chosen held c a h in
         let i : r.0.0.prefix ≡ p = r.2 ∙ sym (same_prefix_is p c.0.prefix t) in

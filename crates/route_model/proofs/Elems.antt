@@ -5,7 +5,7 @@ use Rattle.std.specs.List.{AllByRecursion, filter}
 use Rattle.std.specs.Map.{keys_of}
 use Rattle.std.proofs.lemmas.List.Sums.{fold-append}
 use Rattle.route_model.specs.Events.{Event, Announce, Withdraw, Down, IsEvent, Elem, same_peer}
-use Rattle.route_model.specs.Choice.{Place, Offer, Candidates, AreCandidates, IsPlace, IsElem, after_elem, after_elems, cut_of, elems_of, elems_after}
+use Rattle.route_model.specs.Choice.{Place, PathAttrs, Candidates, AreCandidates, IsPlace, IsElem, after_elem, after_elems, cut_of, elems_of, elems_after}
 use Rattle.route_model.proofs.Keyed.{all_filter}
 use Rattle.route_model.proofs.Said.{candidates_after}
 
@@ -25,7 +25,7 @@ pub elems_of_event : (held : Candidates) (event : Event) → AreCandidates held 
 elems_of_event held (Announce via prefix path hop origin) a e = ((e.1, e.0), tt)
 elems_of_event held (Withdraw via prefix) a e = ((e.1, e.0), tt)
 elems_of_event held (Down peer) a e =
-    let of_peer : Place × Offer → Bool = λ c. same_peer peer c.0.via.peer in
+    let of_peer : Place × PathAttrs → Bool = λ c. same_peer peer c.0.via.peer in
     cuts (filter of_peer held) (all_filter of_peer IsPlace held a.0)
 
 pub elems_of_events : (held : Candidates) (events : List Event) → AreCandidates held → AllByRecursion IsEvent events → AllByRecursion IsElem (elems_after held events)

@@ -7,20 +7,20 @@ use Rattle.std.specs.Map.{lookup, keys_of}
 use Rattle.table_model.specs.Address.{Prefix, IsPrefix, same_prefix}
 use Rattle.table_model.proofs.SamePrefix.{same_prefix_is, same_prefix_itself}
 use Rattle.route_model.specs.Events.{Elem, Put, Cut, elem_prefix, same_via}
-use Rattle.route_model.specs.Choice.{Place, Offer, Candidates, AreCandidates, IsHeld, IsPlace, IsElem, same_place, place_cmp, after_elem, is_about, offered, is_chosen, chosen_in, routes_of, chosen_for}
+use Rattle.route_model.specs.Choice.{Place, PathAttrs, Candidates, AreCandidates, IsHeld, IsPlace, IsElem, same_place, place_cmp, after_elem, is_about, offered, is_chosen, chosen_in, routes_of, chosen_for}
 use Rattle.route_model.proofs.Keyed.{found_later, found_fails, all_filter}
 use Rattle.route_model.proofs.Places.{place_key}
 use Rattle.route_model.proofs.Choices.{held_first, one_is_chosen, chosen_is_held, chosen_wins, chosen_for-chosen, chosen_for-none, chosen_for-best}
-use Rattle.route_model.proofs.Said.{candidates_after, offer_after}
+use Rattle.route_model.proofs.Said.{candidates_after, attrs_after}
 
 -- a prefix that some candidate has is a held candidate's
-some_held : (p : Prefix) (held : Candidates) → IsStrictlySortedBy place_cmp (keys_of held) → list_any (λ c. same_prefix p c.0.prefix) held ≡ true → (c : Place × Offer) × IsHeld held c × (c.0.prefix ≡ p)
+some_held : (p : Prefix) (held : Candidates) → IsStrictlySortedBy place_cmp (keys_of held) → list_any (λ c. same_prefix p c.0.prefix) held ≡ true → (c : Place × PathAttrs) × IsHeld held c × (c.0.prefix ≡ p)
 unfolding IsStrictlySortedBy
 some_held p [] s h = absurd cc
 some_held p (e ∷ held) s h = by_test (same_prefix p e.0.prefix) refl h (some_held p held s.1)
   where
     by_test : (b : Bool) → same_prefix p e.0.prefix ≡ b → (b || list_any (λ c. same_prefix p c.0.prefix) held) ≡ true
-        → (list_any (λ c. same_prefix p c.0.prefix) held ≡ true → (c : Place × Offer) × IsHeld held c × (c.0.prefix ≡ p)) → (c : Place × Offer) × IsHeld (e ∷ held) c × (c.0.prefix ≡ p)
+        → (list_any (λ c. same_prefix p c.0.prefix) held ≡ true → (c : Place × PathAttrs) × IsHeld held c × (c.0.prefix ≡ p)) → (c : Place × PathAttrs) × IsHeld (e ∷ held) c × (c.0.prefix ≡ p)
     by_test true t x ih = (e, held_first e held, sym (same_prefix_is p e.0.prefix t))
     by_test false t x ih = let r = ih x in (r.0, found_later place_key r.0.0 r.0.1 e held s r.1, r.2)
 
@@ -32,7 +32,7 @@ AgreeAt p held more = (at : Place) → at.prefix ≡ p → lookup (same_place at
 agree : (p : Prefix) (held more : Candidates) → AreCandidates held → AreCandidates more → AgreeAt p held more → chosen_for more p ≡ chosen_for held p
 agree p held more a b g = by_test (list_any (λ c. same_prefix p c.0.prefix) held) refl
   where
-    nowhere : list_any (λ c. same_prefix p c.0.prefix) held ≡ false → (c : Place × Offer) → IsHeld more c → (t : Bool) → same_prefix p c.0.prefix ≡ t → t ≡ false
+    nowhere : list_any (λ c. same_prefix p c.0.prefix) held ≡ false → (c : Place × PathAttrs) → IsHeld more c → (t : Bool) → same_prefix p c.0.prefix ≡ t → t ≡ false
     nowhere n c h true t =
         let x : IsHeld held c = sym (g c.0 (sym (same_prefix_is p c.0.prefix t))) ∙ h in
         sym t ∙ found_fails place_key (λ c. same_prefix p c.0.prefix) c.0 c.1 held n x
@@ -72,7 +72,7 @@ not_about at (Cut via prefix) q n i = ap (λ b. b && same_via at.via via) (apart
 pub chosen_elsewhere : (held : Candidates) (elem : Elem) (q : Prefix) → AreCandidates held → IsElem elem → same_prefix (elem_prefix elem) q ≡ false → chosen_for (after_elem held elem) q ≡ chosen_for held q
 chosen_elsewhere held elem q a e n =
     agree q held (after_elem held elem) a (candidates_after held elem a e) (λ at i.
-    offer_after at held elem a e ∙ ap (λ b. if b then offered elem else lookup (same_place at) held) (not_about at elem q n i))
+    attrs_after at held elem a e ∙ ap (λ b. if b then offered elem else lookup (same_place at) held) (not_about at elem q n i))
 
 -- ---- the prefixes of the routes
 

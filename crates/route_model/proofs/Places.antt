@@ -1,4 +1,4 @@
--- The orders of peers, of ways and of places tell apart what their tests do.
+-- The orders of peers, of path sources and of places tell apart what their tests do.
 use Rattle.std.proofs.Common.{◌≡◌, ℕ, true, refl, sym, ap, ◌∙◌, arith}
 use Rattle.std.specs.Prelude.{◌==◌}
 use Rattle.std.specs.Cmp.{IsTotalOrder}
@@ -68,7 +68,7 @@ peer_exact q r hq hr e =
 pub peer_key : IsKey peer_cmp same_peer IsPeer
 peer_key = record { total = peer_total; exact = peer_exact; same = same_peer_is; itself = same_peer_itself }
 
--- ---- ways
+-- ---- path sources
 
 via_from : (v u : Via) → v.peer ≡ u.peer → v.id ≡ u.id → v ≡ u
 via_from v u p i = ap (λ x. let w : Via = record { peer = x; id = v.id } in w) p ∙ ap (λ x. let w : Via = record { peer = u.peer; id = x } in w) i

@@ -18,7 +18,7 @@ use Rattle.table_model.specs.Address.{Address, Prefix, IsPrefix, same_prefix}
 use Rattle.table_model.specs.Order.{prefix_cmp}
 use Rattle.route_model.specs.Events.{same_peer, Via, IsVia, same_via, via_cmp, Event, Announce, Withdraw, Down, Elem, Put, Cut}
 
--- where a candidate stands: its prefix and the way by which it comes
+-- where a candidate stands: its prefix and its path source
 pub record Place : Type 0 where
   pub prefix : Prefix
   pub via : Via
@@ -35,23 +35,23 @@ abbrev pub place_cmp : Place → Place → Ordering
 place_cmp p q = ordering_then (prefix_cmp p.prefix q.prefix) (via_cmp p.via q.via)
 
 -- what a peer's route for a prefix offers: the length of its path and its next hop
-pub record Offer : Type 0 where
+pub record PathAttrs : Type 0 where
   pub path : ℕ
   pub hop : Address
 
 -- the candidates: at each place, in the order of places, what is offered there
 abbrev pub Candidates : Type 0
-Candidates = List (Place × Offer)
+Candidates = List (Place × PathAttrs)
 
 -- what candidates always are: at places that there are, in strict order of places
 abbrev pub AreCandidates : Candidates → Type 0
 AreCandidates held = AllByRecursion IsPlace (keys_of held) × IsStrictlySortedBy place_cmp (keys_of held)
 
 -- the candidate is held
-abbrev pub IsHeld : Candidates → Place × Offer → Type 0
+abbrev pub IsHeld : Candidates → Place × PathAttrs → Type 0
 IsHeld held c = lookup (same_place c.0) held ≡ Some c.1
 
--- A Put is the candidate of its prefix and way from now on; after a Cut there is none.
+-- A Put is the candidate of its prefix and path source from now on; after a Cut there is none.
 abbrev pub after_elem : Candidates → Elem → Candidates
 after_elem held (Put via prefix path hop) = insert_entry place_cmp held (record { prefix = prefix; via = via }) (record { path = path; hop = hop })
 after_elem held (Cut via prefix) = remove_entry (same_place (record { prefix = prefix; via = via })) held
@@ -62,7 +62,7 @@ after_elems held elems = fold after_elem held elems
 
 -- ---- events as elementary events
 
-abbrev pub cut_of : Place × Offer → Elem
+abbrev pub cut_of : Place × PathAttrs → Elem
 cut_of c = Cut c.0.via c.0.prefix
 
 -- An Announce is one Put, which drops its origin, a Withdraw one Cut, and a Down one Cut for each candidate of the peer, in the order of prefixes, then of path identifiers.
@@ -79,15 +79,15 @@ elems_after held (event ∷ events) = elems_of held event ++ elems_after (after_
 -- ---- choice
 
 -- by preference: by the length of the path, then by the peer and the path identifier
-abbrev pub choice_cmp : Place × Offer → Place × Offer → Ordering
+abbrev pub choice_cmp : Place × PathAttrs → Place × PathAttrs → Ordering
 choice_cmp c d = ordering_then (nat_cmp c.1.path d.1.path) (via_cmp c.0.via d.0.via)
 
 -- whether the first of two candidates is preferred: a shorter path, or where the paths are equally long a lesser peer, and of one peer the lesser path identifier
-abbrev pub beats : Place × Offer → Place × Offer → Bool
+abbrev pub beats : Place × PathAttrs → Place × PathAttrs → Bool
 beats c d = is_lt (choice_cmp c d)
 
 -- whether no candidate of its prefix beats it
-abbrev pub is_chosen : Candidates → Place × Offer → Bool
+abbrev pub is_chosen : Candidates → Place × PathAttrs → Bool
 is_chosen held c = not (list_any (λ d. same_prefix d.0.prefix c.0.prefix && beats d c) held)
 
 -- the chosen candidates, one for each prefix that has any, in the order of prefixes
@@ -95,7 +95,7 @@ abbrev pub chosen_in : Candidates → Candidates
 chosen_in held = filter (is_chosen held) held
 
 -- the candidate is chosen
-abbrev pub IsChosen : Candidates → Place × Offer → Type 0
+abbrev pub IsChosen : Candidates → Place × PathAttrs → Type 0
 IsChosen held c = IsHeld (chosen_in held) c
 
 -- the routes: each prefix that has a candidate, with the next hop of its chosen one
@@ -119,10 +119,10 @@ is_about at (Put via prefix path hop) = same_place at (record { prefix = prefix;
 is_about at (Cut via prefix) = same_place at (record { prefix = prefix; via = via })
 
 -- what it offers there
-abbrev pub offered : Elem → Option Offer
+abbrev pub offered : Elem → Option PathAttrs
 offered (Put via prefix path hop) = Some (record { path = path; hop = hop })
 offered (Cut via prefix) = None
 
 -- what the last of the elementary events about a place offers
-abbrev pub last_offer : Place → List Elem → Option Offer
-last_offer at elems = fold (λ offer elem. if is_about at elem then offered elem else offer) None elems
+abbrev pub last_attrs : Place → List Elem → Option PathAttrs
+last_attrs at elems = fold (λ attrs elem. if is_about at elem then offered elem else attrs) None elems

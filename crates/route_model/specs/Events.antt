@@ -21,7 +21,7 @@ same_peer q r = same_address q.addr r.addr && q.asn == r.asn
 abbrev pub peer_cmp : Peer → Peer → Ordering
 peer_cmp q r = ordering_then (family_cmp q.addr.family r.addr.family) (ordering_then (nat_cmp (value_of q.addr.bits) (value_of r.addr.bits)) (nat_cmp q.asn r.asn))
 
--- By which way a route comes: its peer, and the path identifier that tells the peer's routes of one prefix apart (RFC 7911, 3), which is 0 where the peer sends none.
+-- The path source of a route: its peer, and the path identifier that tells the peer's routes of one prefix apart (RFC 7911, 3), which is 0 where the peer sends none.
 pub record Via : Type 0 where
   pub peer : Peer
   pub id : ℕ

@@ -12,12 +12,12 @@ ghost use Rattle.std.specs.declared.cmp.Ordering.TheVariants.{Less};
 ghost use Rattle.table_model.specs.Address.{Prefix, same_prefix};
 ghost use Rattle.table_model.specs.Order.{prefix_cmp};
 ghost use Rattle.route_model.specs.Events.{Event, IsEvent, Elem, via_cmp, elem_prefix};
-ghost use Rattle.route_model.specs.Choice.{Place, Offer, Candidates, AreCandidates, IsHeld, IsChosen, IsElem, same_place, after_elem, after_elems, elems_of, elems_after, last_offer, routes_of, chosen_for};
+ghost use Rattle.route_model.specs.Choice.{Place, PathAttrs, Candidates, AreCandidates, IsHeld, IsChosen, IsElem, same_place, after_elem, after_elems, elems_of, elems_after, last_attrs, routes_of, chosen_for};
 
 /// The candidate at a place is what the last elementary event about it offers.
 pub fn last_said_law()
     ensures { (at : Place) (elems : List Elem) → AllByRecursion IsElem elems
-        → lookup (same_place at) (after_elems [] elems) ≡ last_offer at elems }
+        → lookup (same_place at) (after_elems [] elems) ≡ last_attrs at elems }
 {}
 
 /// Candidates stay in strict order of their places.
@@ -28,17 +28,17 @@ pub fn order_law()
 {}
 
 /// Where a prefix has candidates, exactly one of them is chosen: the route of the shortest path, and among those that of the
-/// least way: of the least peer, and of its routes that of the least path identifier.
+/// least path source: of the least peer, and of its routes that of the least path identifier.
 pub fn choice_law()
-    ensures one { (held : Candidates) (c : Place × Offer) → AreCandidates held → IsHeld held c
-        → (d : Place × Offer) × IsChosen held d × (d.0.prefix ≡ c.0.prefix) }
-    ensures alone { (held : Candidates) (c d : Place × Offer) → AreCandidates held → IsChosen held c
+    ensures one { (held : Candidates) (c : Place × PathAttrs) → AreCandidates held → IsHeld held c
+        → (d : Place × PathAttrs) × IsChosen held d × (d.0.prefix ≡ c.0.prefix) }
+    ensures alone { (held : Candidates) (c d : Place × PathAttrs) → AreCandidates held → IsChosen held c
         → IsChosen held d → c.0.prefix ≡ d.0.prefix → c ≡ d }
-    ensures candidate { (held : Candidates) (c : Place × Offer) → AreCandidates held
+    ensures candidate { (held : Candidates) (c : Place × PathAttrs) → AreCandidates held
         → IsChosen held c → IsHeld held c }
-    ensures least_path { (held : Candidates) (c d : Place × Offer) → AreCandidates held
+    ensures least_path { (held : Candidates) (c d : Place × PathAttrs) → AreCandidates held
         → IsChosen held c → IsHeld held d → c.0.prefix ≡ d.0.prefix → c.1.path ≤ d.1.path }
-    ensures least_via { (held : Candidates) (c d : Place × Offer) → AreCandidates held
+    ensures least_via { (held : Candidates) (c d : Place × PathAttrs) → AreCandidates held
         → IsChosen held c → IsHeld held d → c.0.prefix ≡ d.0.prefix → c.1.path ≡ d.1.path
         → via_cmp d.0.via c.0.via ≡ Less → ⊥ }
 {}
@@ -50,7 +50,7 @@ pub fn routes_law()
         → IsStrictlySortedBy prefix_cmp (keys_of (routes_of held)) }
     ensures held { (held : Candidates) (p : Prefix) → AreCandidates held
         → is_some (chosen_for held p) ≡ list_any (λ c. same_prefix p c.0.prefix) held }
-    ensures hop { (held : Candidates) (c : Place × Offer) → AreCandidates held → IsChosen held c
+    ensures hop { (held : Candidates) (c : Place × PathAttrs) → AreCandidates held → IsChosen held c
         → chosen_for held c.0.prefix ≡ Some c.1.hop }
 {}
 

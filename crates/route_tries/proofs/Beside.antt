@@ -6,7 +6,7 @@ use Rattle.std.proofs.lemmas.Bool.{eq-eqb, eqb-true, eqb-false, ne_eqb}
 use Rattle.table_model.specs.Bits.{bits_of}
 use Rattle.fib_addr.specs.Answers.{side, part, one_answer}
 use Rattle.fib_addr.proofs.OneAnswer.{mixed_bits}
-use Rattle.poptrie_build.specs.Need.{told}
+use Rattle.poptrie_build.specs.Need.{need_in_u64}
 use Rattle.route_tries.specs.Parts.{half_and, answer_beside, are_two, other_than, lasts, way_nodes, way_leaves, deep_nodes, deep_leaves}
 use Rattle.route_tries.proofs.Meeting.{bits_drop}
 use Rattle.route_tries.proofs.Halves.{no_bit}
@@ -138,19 +138,19 @@ module _ (d e : ℕ) (f g : List Bool → ℕ) (p r : List Bool) (none : one_ans
       let s : e ≡ d - 6 = omega (arith, bits) in
       ap (λ n. D n g r) s ∙ (ap (λ (x : List Bool → ℕ). D (d - 6) x r) answers ∙ ap (D (d - 6) (part (take 6 p) f)) rest)
 
-  pub nodes_on : (n : ℕ) → lasts e g r ≡ true → ((k : ℕ) → e ≤ 6 * k → n ≡ told (deep_nodes k e g r)) → (k : ℕ) → d ≤ 6 * k → n ≡ told (deep_nodes k d f p)
+  pub nodes_on : (n : ℕ) → lasts e g r ≡ true → ((k : ℕ) → e ≤ 6 * k → n ≡ need_in_u64 (deep_nodes k e g r)) → (k : ℕ) → d ≤ 6 * k → n ≡ need_in_u64 (deep_nodes k d f p)
   nodes_on n l h zero m = absurd (omega (arith, mixed_bits d f none, m))
-  nodes_on n l h (suc k) m = h k (omega (arith, m, bits)) ∙ ap told (same_need (deep_nodes k) ∙ sym (deep_nodes_on k d f p (part_lasts true l)))
+  nodes_on n l h (suc k) m = h k (omega (arith, m, bits)) ∙ ap need_in_u64 (same_need (deep_nodes k) ∙ sym (deep_nodes_on k d f p (part_lasts true l)))
 
-  pub leaves_on : (n : ℕ) → lasts e g r ≡ true → ((k : ℕ) → e ≤ 6 * k → n ≡ told (deep_leaves k e g r)) → (k : ℕ) → d ≤ 6 * k → n ≡ told (deep_leaves k d f p)
+  pub leaves_on : (n : ℕ) → lasts e g r ≡ true → ((k : ℕ) → e ≤ 6 * k → n ≡ need_in_u64 (deep_leaves k e g r)) → (k : ℕ) → d ≤ 6 * k → n ≡ need_in_u64 (deep_leaves k d f p)
   leaves_on n l h zero m = absurd (omega (arith, mixed_bits d f none, m))
-  leaves_on n l h (suc k) m = h k (omega (arith, m, bits)) ∙ ap told (same_need (deep_leaves k) ∙ sym (deep_leaves_on k d f p (part_lasts true l)))
+  leaves_on n l h (suc k) m = h k (omega (arith, m, bits)) ∙ ap need_in_u64 (same_need (deep_leaves k) ∙ sym (deep_leaves_on k d f p (part_lasts true l)))
 
 module _ (d n : ℕ) (f : List Bool → ℕ) (p : List Bool) (none : one_answer d f ≡ None) (ends : lasts (d - 6) (part (take 6 p) f) (drop 6 p) ≡ false) where
-  pub nodes_here : ((k : ℕ) → d ≤ 6 * k → n ≡ told (way_nodes k d f p)) → (k : ℕ) → d ≤ 6 * k → n ≡ told (deep_nodes k d f p)
+  pub nodes_here : ((k : ℕ) → d ≤ 6 * k → n ≡ need_in_u64 (way_nodes k d f p)) → (k : ℕ) → d ≤ 6 * k → n ≡ need_in_u64 (deep_nodes k d f p)
   nodes_here h zero m = absurd (omega (arith, mixed_bits d f none, m))
-  nodes_here h (suc k) m = h (suc k) m ∙ ap told (sym (way_nodes_end k d f p ends))
+  nodes_here h (suc k) m = h (suc k) m ∙ ap need_in_u64 (sym (way_nodes_end k d f p ends))
 
-  pub leaves_here : ((k : ℕ) → d ≤ 6 * k → n ≡ told (way_leaves k d f p)) → (k : ℕ) → d ≤ 6 * k → n ≡ told (deep_leaves k d f p)
+  pub leaves_here : ((k : ℕ) → d ≤ 6 * k → n ≡ need_in_u64 (way_leaves k d f p)) → (k : ℕ) → d ≤ 6 * k → n ≡ need_in_u64 (deep_leaves k d f p)
   leaves_here h zero m = absurd (omega (arith, mixed_bits d f none, m))
-  leaves_here h (suc k) m = h (suc k) m ∙ ap told (sym (way_leaves_end k d f p ends))
+  leaves_here h (suc k) m = h (suc k) m ∙ ap need_in_u64 (sym (way_leaves_end k d f p ends))

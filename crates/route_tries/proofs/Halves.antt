@@ -5,7 +5,7 @@ use Rattle.std.proofs.lemmas.Nat.Bits.{shr_and_one}
 use Rattle.table_model.specs.Bits.{bits_of}
 use Rattle.fib_addr.specs.Answers.{one_answer}
 use Rattle.poptrie_build.specs.Strides.{slot}
-use Rattle.poptrie_build.specs.Need.{told}
+use Rattle.poptrie_build.specs.Need.{need_in_u64}
 use Rattle.poptrie_build.specs.Tally.{AreLeaves, AreParts, IsNeed}
 use Rattle.poptrie_build.specs.declared.counts.Needs.{Needs}
 use Rattle.poptrie_build.proofs.Slotting.{double, halved, low_bits, high_bits}
@@ -138,7 +138,7 @@ here j v N x z a =
     ap N e ∙ a 0 (omega arith)
 
 pub slot_beside : (n : Needs) (j v : ℕ) (N L : ℕ → ℕ) → j ≡ 0 → n.nodes ≡ 0 → n.leaves ≡ 0 → AreBeside j N L v → IsNeed n (N v) (L v)
-slot_beside n j v N L z x y a = record { nodes = x ∙ ap told (sym (here j v N 0 z a.nodes)); leaves = y ∙ ap told (sym (here j v L 0 z a.leaves)) }
+slot_beside n j v N L z x y a = record { nodes = x ∙ ap need_in_u64 (sym (here j v N 0 z a.nodes)); leaves = y ∙ ap need_in_u64 (sym (here j v L 0 z a.leaves)) }
 
 pub slot_on_way : (n : Needs) (j k e v : ℕ) (r : ℕ → List Bool → ℕ) (p : List Bool) (N L : ℕ → ℕ) → j ≡ 0 → IsNeed n (way_nodes k e (r v) p) (way_leaves k e (r v) p) → AreOnWay j k e r p N L v → IsNeed n (N v) (L v)
 unfolding bits_of
@@ -147,7 +147,7 @@ slot_on_way n j k e v r p N L z need a =
     let zero_on : v ≡ v + 0 = omega arith in
     let x : N v ≡ way_nodes k e (r v) p = ap N zero_on ∙ (w.nodes 0 (omega arith) ∙ ap (λ i. way_nodes k e (r i) p) (sym zero_on)) in
     let y : L v ≡ way_leaves k e (r v) p = ap L zero_on ∙ (w.leaves 0 (omega arith) ∙ ap (λ i. way_leaves k e (r i) p) (sym zero_on)) in
-    record { nodes = need.nodes ∙ ap told (sym x); leaves = need.leaves ∙ ap told (sym y) }
+    record { nodes = need.nodes ∙ ap need_in_u64 (sym x); leaves = need.leaves ∙ ap need_in_u64 (sym y) }
 
 -- slots with one answer
 module _ (j d h e v : ℕ) (f : List Bool → ℕ) (r : ℕ → List Bool → ℕ) (N L : ℕ → ℕ) (one : one_answer d f ≡ Some h) (parts : AreParts j d f e r v) where

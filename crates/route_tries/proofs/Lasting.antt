@@ -7,9 +7,9 @@ use Rattle.table_model.specs.Bits.{bits_of}
 use Rattle.table_model.proofs.BitLaws.{length-bits_of}
 use Rattle.fib_addr.specs.Answers.{side, part, one_answer}
 use Rattle.fib_addr.proofs.OneAnswer.{one_answer_part}
-use Rattle.block_pool.specs.Powers.{up}
+use Rattle.buddy_arena.specs.Powers.{up}
 use Rattle.poptrie_build.specs.Strides.{slots, slot, slot_bits, mixed, total}
-use Rattle.poptrie_build.specs.Need.{told, children, runs, if_mixed, need_nodes, need_leaves}
+use Rattle.poptrie_build.specs.Need.{need_in_u64, children, runs, if_mixed, need_nodes, need_leaves}
 use Rattle.poptrie_build.proofs.Slotting.{double, low_bits, high_bits}
 use Rattle.route_tries.specs.Parts.{AreMoved, meet, half_and, answer_beside, are_two, lasts, way_nodes, way_leaves, deep_nodes, deep_leaves}
 use Rattle.route_tries.proofs.Meeting.{apart, begins_front, met_is}
@@ -269,8 +269,8 @@ no_deep_leaves (suc k) d h f p e = by (lasts (d - 6) (part (take 6 p) f) (drop 6
     by true l = absurd (let w : Some h ≡ None = sym e ∙ two d f f p (λ a z. refl) l in cc)
 
 -- ---- a slot of the direct bits that has no node
-pub none_nodes : (k d h : ℕ) (f : List Bool → ℕ) (p : List Bool) → one_answer d f ≡ Some h → 0 ≡ told (mixed (one_answer d f) + deep_nodes k d f p)
+pub none_nodes : (k d h : ℕ) (f : List Bool → ℕ) (p : List Bool) → one_answer d f ≡ Some h → 0 ≡ need_in_u64 (mixed (one_answer d f) + deep_nodes k d f p)
 none_nodes k d h f p e = omega (arith, ap mixed e, no_deep_nodes k d h f p e)
 
-pub none_leaves : (k d h : ℕ) (f : List Bool → ℕ) (p : List Bool) → one_answer d f ≡ Some h → 0 ≡ told (deep_leaves k d f p)
+pub none_leaves : (k d h : ℕ) (f : List Bool → ℕ) (p : List Bool) → one_answer d f ≡ Some h → 0 ≡ need_in_u64 (deep_leaves k d f p)
 none_leaves k d h f p e = omega (arith, no_deep_leaves k d h f p e)

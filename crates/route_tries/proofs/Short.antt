@@ -7,7 +7,7 @@ use Rattle.table_model.specs.Width.{width}
 use Rattle.table_model.specs.declared.family.Family.{Family}
 use Rattle.table_model.specs.declared.family.Family.TheVariants.{V4, V6}
 use Rattle.table_model.specs.Entries.{Entries}
-use Rattle.poptrie_build.specs.Need.{told}
+use Rattle.poptrie_build.specs.Need.{need_in_u64}
 use Rattle.fib_addr.specs.Answers.{all_answers}
 use Rattle.fib_addr.proofs.OneAnswer.{one_answer_from}
 use Rattle.poptrie_build.specs.Strides.{strides}
@@ -37,7 +37,7 @@ or_else (Some x) later = Some x
 short_else : (arena need have : ℕ) (o later : Option Shortage) → short_or arena need have (or_else o later) ≡ or_else (short_or arena need have o) later
 short_else arena need have o later = by (nat_lt have need)
   where
-    by : (b : Bool) → cond b (Some (let x : Shortage = record { arena = arena; need = told need; have = have } in x)) (or_else o later) ≡ or_else (cond b (Some (let x : Shortage = record { arena = arena; need = told need; have = have } in x)) o) later
+    by : (b : Bool) → cond b (Some (let x : Shortage = record { arena = arena; need = need_in_u64 need; have = have } in x)) (or_else o later) ≡ or_else (cond b (Some (let x : Shortage = record { arena = arena; need = need_in_u64 need; have = have } in x)) o) later
     by true = refl
     by false = refl
 
@@ -64,19 +64,19 @@ module _ (z : Sizes) (f g : Family) (L M : Entries) (a : f ≡ V4) (b : g ≡ V6
 
 -- ---- needs as they are told, and needs that fit
 
-same_test : (need have : ℕ) → have < 18446744073709551615 → nat_lt have (told need) ≡ nat_lt have need
-same_test need have l = ltb_from_iff {b = nat_lt have (told need)} (λ t. omega (arith, l, ltb-true have (told need) t), λ m. lt-ltb have (told need) (omega (arith, l, m)))
+same_test : (need have : ℕ) → have < 18446744073709551615 → nat_lt have (need_in_u64 need) ≡ nat_lt have need
+same_test need have l = ltb_from_iff {b = nat_lt have (need_in_u64 need)} (λ t. omega (arith, l, ltb-true have (need_in_u64 need) t), λ m. lt-ltb have (need_in_u64 need) (omega (arith, l, m)))
 
-short_told : (arena need have : ℕ) (later : Option Shortage) → have < 18446744073709551615 → short_or arena (told need) have later ≡ short_or arena need have later
+short_told : (arena need have : ℕ) (later : Option Shortage) → have < 18446744073709551615 → short_or arena (need_in_u64 need) have later ≡ short_or arena need have later
 short_told arena need have later l =
-    let twice : told (told need) ≡ told need = omega arith in
-    ap (λ b. cond b (Some (let x : Shortage = record { arena = arena; need = told (told need); have = have } in x)) later) (same_test need have l)
+    let twice : need_in_u64 (need_in_u64 need) ≡ need_in_u64 need = omega arith in
+    ap (λ b. cond b (Some (let x : Shortage = record { arena = arena; need = need_in_u64 (need_in_u64 need); have = have } in x)) later) (same_test need have l)
     ∙ ap (λ m. cond (nat_lt have need) (Some (let x : Shortage = record { arena = arena; need = m; have = have } in x)) later) twice
 
 short_none : (arena need have : ℕ) (later : Option Shortage) → need ≤ have → short_or arena need have later ≡ later
 short_none arena need have later l = by (nat_lt have need) refl
   where
-    by : (b : Bool) → nat_lt have need ≡ b → cond b (Some (let x : Shortage = record { arena = arena; need = told need; have = have } in x)) later ≡ later
+    by : (b : Bool) → nat_lt have need ≡ b → cond b (Some (let x : Shortage = record { arena = arena; need = need_in_u64 need; have = have } in x)) later ≡ later
     by true t = absurd (omega (arith, l, ltb-true have need t))
     by false t = refl
 
@@ -84,7 +84,7 @@ short_fits : (arena need have : ℕ) (later : Option Shortage) → short_or aren
 short_fits arena need have later e = by (cases_lt have need)
   where
     by : (have < need) ⊎ (need ≤ have) → (need ≤ have) × (later ≡ None)
-    by (inl l) = absurd (let t : Some (let x : Shortage = record { arena = arena; need = told need; have = have } in x) ≡ None = sym (ap (λ b. cond b (Some (let x : Shortage = record { arena = arena; need = told need; have = have } in x)) later) (lt-ltb have need l)) ∙ e in cc)
+    by (inl l) = absurd (let t : Some (let x : Shortage = record { arena = arena; need = need_in_u64 need; have = have } in x) ≡ None = sym (ap (λ b. cond b (Some (let x : Shortage = record { arena = arena; need = need_in_u64 need; have = have } in x)) later) (lt-ltb have need l)) ∙ e in cc)
     by (inr l) = (l, sym (short_none arena need have later l) ∙ e)
 
 module _ (z : Sizes) (few_nodes : z.nodes ≤ 24) (few_leaves : z.leaves ≤ 26) where
@@ -99,9 +99,9 @@ module _ (z : Sizes) (few_nodes : z.nodes ≤ 24) (few_leaves : z.leaves ≤ 26)
   told_short n =
       let a : 2 ^ z.nodes < 18446744073709551615 = omega (arith, nodes_most) in
       let b : 2 ^ z.leaves < 18446744073709551615 = omega (arith, leaves_most) in
-      short_told 0 n.v4.nodes (2 ^ z.nodes) (short_or 1 (told n.v4.leaves) (2 ^ z.leaves) (short_or 2 (told n.v6.nodes) (2 ^ z.nodes) (short_or 3 (told n.v6.leaves) (2 ^ z.leaves) None))) a
-      ∙ (ap (short_or 0 n.v4.nodes (2 ^ z.nodes)) (short_told 1 n.v4.leaves (2 ^ z.leaves) (short_or 2 (told n.v6.nodes) (2 ^ z.nodes) (short_or 3 (told n.v6.leaves) (2 ^ z.leaves) None)) b)
-      ∙ (ap (λ (o : Option Shortage). short_or 0 n.v4.nodes (2 ^ z.nodes) (short_or 1 n.v4.leaves (2 ^ z.leaves) o)) (short_told 2 n.v6.nodes (2 ^ z.nodes) (short_or 3 (told n.v6.leaves) (2 ^ z.leaves) None) a)
+      short_told 0 n.v4.nodes (2 ^ z.nodes) (short_or 1 (need_in_u64 n.v4.leaves) (2 ^ z.leaves) (short_or 2 (need_in_u64 n.v6.nodes) (2 ^ z.nodes) (short_or 3 (need_in_u64 n.v6.leaves) (2 ^ z.leaves) None))) a
+      ∙ (ap (short_or 0 n.v4.nodes (2 ^ z.nodes)) (short_told 1 n.v4.leaves (2 ^ z.leaves) (short_or 2 (need_in_u64 n.v6.nodes) (2 ^ z.nodes) (short_or 3 (need_in_u64 n.v6.leaves) (2 ^ z.leaves) None)) b)
+      ∙ (ap (λ (o : Option Shortage). short_or 0 n.v4.nodes (2 ^ z.nodes) (short_or 1 n.v4.leaves (2 ^ z.leaves) o)) (short_told 2 n.v6.nodes (2 ^ z.nodes) (short_or 3 (need_in_u64 n.v6.leaves) (2 ^ z.leaves) None) a)
       ∙ ap (λ (o : Option Shortage). short_or 0 n.v4.nodes (2 ^ z.nodes) (short_or 1 n.v4.leaves (2 ^ z.leaves) (short_or 2 n.v6.nodes (2 ^ z.nodes) o))) (short_told 3 n.v6.leaves (2 ^ z.leaves) None b)))
 
   pub fit_few : (n : FamilyNeeds) → first_short z n ≡ None → AreFew n
@@ -113,14 +113,14 @@ module _ (z : Sizes) (few_nodes : z.nodes ≤ 24) (few_leaves : z.leaves ≤ 26)
       let f = short_fits 3 n.v6.leaves (2 ^ z.leaves) None d.1 in
       (omega (arith, a.0, nodes_most), omega (arith, b.0, leaves_most), omega (arith, d.0, nodes_most), omega (arith, f.0, leaves_most))
 
-few_number : (n : ℕ) → n ≤ 67108864 → told n ≡ n
+few_number : (n : ℕ) → n ≤ 67108864 → need_in_u64 n ≡ n
 few_number n l = omega (arith, l)
 
 pub few_told : (n : FamilyNeeds) → AreFew n → told_needs n ≡ n
 few_told n few =
-    ap (λ m. let x : FamilyNeeds = record { v4 = record { nodes = m; leaves = told n.v4.leaves }; v6 = told_need n.v6 } in x) (few_number n.v4.nodes (omega (arith, few.0)))
+    ap (λ m. let x : FamilyNeeds = record { v4 = record { nodes = m; leaves = need_in_u64 n.v4.leaves }; v6 = told_need n.v6 } in x) (few_number n.v4.nodes (omega (arith, few.0)))
     ∙ (ap (λ m. let x : FamilyNeeds = record { v4 = record { nodes = n.v4.nodes; leaves = m }; v6 = told_need n.v6 } in x) (few_number n.v4.leaves (omega (arith, few.1)))
-    ∙ (ap (λ m. let x : FamilyNeeds = record { v4 = n.v4; v6 = record { nodes = m; leaves = told n.v6.leaves } } in x) (few_number n.v6.nodes (omega (arith, few.2)))
+    ∙ (ap (λ m. let x : FamilyNeeds = record { v4 = n.v4; v6 = record { nodes = m; leaves = need_in_u64 n.v6.leaves } } in x) (few_number n.v6.nodes (omega (arith, few.2)))
     ∙ ap (λ m. let x : FamilyNeeds = record { v4 = n.v4; v6 = record { nodes = n.v6.nodes; leaves = m } } in x) (few_number n.v6.leaves (omega (arith, few.3)))))
 
 -- ---- a table of nothing needs nothing

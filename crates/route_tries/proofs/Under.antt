@@ -10,7 +10,7 @@ use Rattle.table_model.specs.declared.family.Family.TheVariants.{V4, V6}
 use Rattle.table_model.specs.Entries.{Entries}
 use Rattle.fib_addr.specs.Answers.{side, part, all_answers, one_answer}
 use Rattle.poptrie_build.specs.Strides.{strides, mixed}
-use Rattle.poptrie_build.specs.Need.{told, trie_nodes, trie_leaves}
+use Rattle.poptrie_build.specs.Need.{need_in_u64, trie_nodes, trie_leaves}
 use Rattle.poptrie_build.specs.Tries.{rest, node_need, leaf_need}
 use Rattle.poptrie_build.specs.declared.counts.Needs.{Needs}
 use Rattle.poptrie_build.proofs.Filled.{strides_do, wide_enough}
@@ -129,7 +129,7 @@ same_itself V6 b = refl
 alike_else : (L M : Entries) (p : Prefix) → AreAlikeOutside p L M → AlikeElse p.bits (all_answers p.family L) (all_answers p.family M)
 alike_else L M p h a e = h (record { family = p.family; bits = a }) (same_itself p.family (begins p.bits a) ∙ e)
 
-pub moved_number : (whole before after n m pn pm : ℕ) → whole < 18446744073709551616 → whole ≡ n → before ≡ told pn → after ≡ told pm → pn ≤ n → m + pn ≡ n + pm → min ((whole - before) + after) 18446744073709551615 ≡ told m
+pub moved_number : (whole before after n m pn pm : ℕ) → whole < 18446744073709551616 → whole ≡ n → before ≡ need_in_u64 pn → after ≡ need_in_u64 pm → pn ≤ n → m + pn ≡ n + pm → min ((whole - before) + after) 18446744073709551615 ≡ need_in_u64 m
 moved_number whole before after n m pn pm l w b a few e = omega (arith, w, b, a, few, e, l)
 
 module _ (s : ℕ) (L M : Entries) (p : Prefix) (h : AreAlikeOutside p L M) where
@@ -142,11 +142,11 @@ module _ (s : ℕ) (L M : Entries) (p : Prefix) (h : AreAlikeOutside p L M) wher
 -- ---- what is counted at a prefix
 -- b bits are left behind the first c of the prefix's n, of which the region at hand has the answers g
 module _ (f : Family) (s c n b : ℕ) (R : Entries) (p : Prefix) (g : List Bool → ℕ) (r : Needs) (of : p.family ≡ f) (len : length p.bits ≡ n) (le : n ≤ width f) (least : c ≡ min n s) (few : s ≤ 18) (left : b + c ≡ width f) (is : g ≡ part (take c p.bits) (all_answers f R)) where
-  both_told : r.nodes ≡ told (nodes_on_way f s R p.bits) → r.leaves ≡ told (leaves_on_way f s R p.bits) → r ≡ told_need (need_at s R p)
+  both_told : r.nodes ≡ need_in_u64 (nodes_on_way f s R p.bits) → r.leaves ≡ need_in_u64 (leaves_on_way f s R p.bits) → r ≡ told_need (need_at s R p)
   both_told x y =
       ap (λ m. let t : Needs = record { nodes = m; leaves = r.leaves } in t) x
-      ∙ (ap (λ m. let t : Needs = record { nodes = told (nodes_on_way f s R p.bits); leaves = m } in t) y
-      ∙ ap (λ (h : Family). let t : Needs = record { nodes = told (nodes_on_way h s R p.bits); leaves = told (leaves_on_way h s R p.bits) } in t) (sym of))
+      ∙ (ap (λ m. let t : Needs = record { nodes = need_in_u64 (nodes_on_way f s R p.bits); leaves = m } in t) y
+      ∙ ap (λ (h : Family). let t : Needs = record { nodes = need_in_u64 (nodes_on_way h s R p.bits); leaves = need_in_u64 (leaves_on_way h s R p.bits) } in t) (sym of))
 
   bits_left : b - (s - c) ≡ rest f s
   bits_left = omega (arith, least, left, le, wide_enough f s few)
@@ -155,18 +155,18 @@ module _ (f : Family) (s c n b : ℕ) (R : Entries) (p : Prefix) (g : List Bool 
   enough = omega (arith, bits_left, strides_do (rest f s))
 
   -- a prefix of no more than the direct bits
-  pub counted_slots : n ≤ s → ((k : ℕ) → b - (s - c) ≤ 6 * k → r.nodes ≡ told (trie_nodes (s - c) k (b - (s - c)) g)) → ((k : ℕ) → b - (s - c) ≤ 6 * k → r.leaves ≡ told (trie_leaves (s - c) k (b - (s - c)) g)) → r ≡ told_need (need_at s R p)
+  pub counted_slots : n ≤ s → ((k : ℕ) → b - (s - c) ≤ 6 * k → r.nodes ≡ need_in_u64 (trie_nodes (s - c) k (b - (s - c)) g)) → ((k : ℕ) → b - (s - c) ≤ 6 * k → r.leaves ≡ need_in_u64 (trie_leaves (s - c) k (b - (s - c)) g)) → r ≡ told_need (need_at s R p)
   counted_slots l x y =
       let k = strides (rest f s) in
       let all : take c p.bits ≡ p.bits = ap (λ m. take m p.bits) (let z : c ≡ length p.bits = omega (arith, least, len) in z) ∙ take-length p.bits in
       let here : g ≡ part p.bits (all_answers f R) = is ∙ ap (λ (q : List Bool). part q (all_answers f R)) all in
       let bits : (s - c) + length p.bits ≡ s = omega (arith, least, len) in
       both_told
-      (x k enough ∙ (ap (λ d. told (trie_nodes (s - c) k d g)) bits_left ∙ (ap (λ (h : List Bool → ℕ). told (trie_nodes (s - c) k (rest f s) h)) here ∙ ap told (sym (nodes_short k (rest f s) s (s - c) (all_answers f R) p.bits bits)))))
-      (y k enough ∙ (ap (λ d. told (trie_leaves (s - c) k d g)) bits_left ∙ (ap (λ (h : List Bool → ℕ). told (trie_leaves (s - c) k (rest f s) h)) here ∙ ap told (sym (leaves_short k (rest f s) s (s - c) (all_answers f R) p.bits bits)))))
+      (x k enough ∙ (ap (λ d. need_in_u64 (trie_nodes (s - c) k d g)) bits_left ∙ (ap (λ (h : List Bool → ℕ). need_in_u64 (trie_nodes (s - c) k (rest f s) h)) here ∙ ap need_in_u64 (sym (nodes_short k (rest f s) s (s - c) (all_answers f R) p.bits bits)))))
+      (y k enough ∙ (ap (λ d. need_in_u64 (trie_leaves (s - c) k d g)) bits_left ∙ (ap (λ (h : List Bool → ℕ). need_in_u64 (trie_leaves (s - c) k (rest f s) h)) here ∙ ap need_in_u64 (sym (leaves_short k (rest f s) s (s - c) (all_answers f R) p.bits bits)))))
 
   -- a longer one, of which j bits are left
-  pub counted_way : (q j : ℕ) → bits_of n q ≡ p.bits → s < n → j ≡ n - s → ((k : ℕ) → b ≤ 6 * k → r.nodes ≡ told (mixed (one_answer b g) + deep_nodes k b g (bits_of j q))) → ((k : ℕ) → b ≤ 6 * k → r.leaves ≡ told (deep_leaves k b g (bits_of j q))) → r ≡ told_need (need_at s R p)
+  pub counted_way : (q j : ℕ) → bits_of n q ≡ p.bits → s < n → j ≡ n - s → ((k : ℕ) → b ≤ 6 * k → r.nodes ≡ need_in_u64 (mixed (one_answer b g) + deep_nodes k b g (bits_of j q))) → ((k : ℕ) → b ≤ 6 * k → r.leaves ≡ need_in_u64 (deep_leaves k b g (bits_of j q))) → r ≡ told_need (need_at s R p)
   counted_way q j path l e x y =
       let k = strides (rest f s) in
       let first : c ≡ s = omega (arith, least) in
@@ -175,5 +175,5 @@ module _ (f : Family) (s c n b : ℕ) (R : Entries) (p : Prefix) (g : List Bool 
       let behind : bits_of j q ≡ drop s p.bits = ap (λ m. bits_of m q) e ∙ (sym (bits_drop s n q) ∙ ap (drop s) path) in
       let long : s ≤ length p.bits = omega (arith, len) in
       both_told
-      (x k (omega (arith, bits, strides_do (rest f s))) ∙ (ap (λ d. told (mixed (one_answer d g) + deep_nodes k d g (bits_of j q))) bits ∙ (ap (λ (h : List Bool → ℕ). told (mixed (one_answer (rest f s) h) + deep_nodes k (rest f s) h (bits_of j q))) here ∙ (ap (λ (t : List Bool). told (mixed (one_answer (rest f s) (part (take s p.bits) (all_answers f R))) + deep_nodes k (rest f s) (part (take s p.bits) (all_answers f R)) t)) behind ∙ ap told (sym (nodes_long k (rest f s) s (all_answers f R) p.bits long))))))
-      (y k (omega (arith, bits, strides_do (rest f s))) ∙ (ap (λ d. told (deep_leaves k d g (bits_of j q))) bits ∙ (ap (λ (h : List Bool → ℕ). told (deep_leaves k (rest f s) h (bits_of j q))) here ∙ (ap (λ (t : List Bool). told (deep_leaves k (rest f s) (part (take s p.bits) (all_answers f R)) t)) behind ∙ ap told (sym (leaves_long k (rest f s) s (all_answers f R) p.bits long))))))
+      (x k (omega (arith, bits, strides_do (rest f s))) ∙ (ap (λ d. need_in_u64 (mixed (one_answer d g) + deep_nodes k d g (bits_of j q))) bits ∙ (ap (λ (h : List Bool → ℕ). need_in_u64 (mixed (one_answer (rest f s) h) + deep_nodes k (rest f s) h (bits_of j q))) here ∙ (ap (λ (t : List Bool). need_in_u64 (mixed (one_answer (rest f s) (part (take s p.bits) (all_answers f R))) + deep_nodes k (rest f s) (part (take s p.bits) (all_answers f R)) t)) behind ∙ ap need_in_u64 (sym (nodes_long k (rest f s) s (all_answers f R) p.bits long))))))
+      (y k (omega (arith, bits, strides_do (rest f s))) ∙ (ap (λ d. need_in_u64 (deep_leaves k d g (bits_of j q))) bits ∙ (ap (λ (h : List Bool → ℕ). need_in_u64 (deep_leaves k (rest f s) h (bits_of j q))) here ∙ (ap (λ (t : List Bool). need_in_u64 (deep_leaves k (rest f s) (part (take s p.bits) (all_answers f R)) t)) behind ∙ ap need_in_u64 (sym (leaves_long k (rest f s) s (all_answers f R) p.bits long))))))

@@ -5,11 +5,11 @@ use Rattle.std.proofs.lemmas.Bool.{cases_lt}
 use Rattle.std.proofs.lemmas.List.{length-take}
 use Rattle.table_model.specs.Bits.{bits_of, begins}
 use Rattle.table_model.proofs.BitLaws.{length-bits_of}
-use Rattle.block_pool.specs.Powers.{up}
+use Rattle.buddy_arena.specs.Powers.{up}
 use Rattle.fib_addr.specs.Answers.{one_answer}
 use Rattle.fib_addr.proofs.OneAnswer.{one_answer_part, mixed_bits}
 use Rattle.poptrie_build.specs.Strides.{slots, slot, slot_bits, total}
-use Rattle.poptrie_build.specs.Need.{told, children, runs, if_mixed, need_nodes, need_leaves}
+use Rattle.poptrie_build.specs.Need.{need_in_u64, children, runs, if_mixed, need_nodes, need_leaves}
 use Rattle.poptrie_build.proofs.Counting.{nodes_at, leaves_at, need_nodes_is, need_leaves_is, no_nodes, no_leaves}
 use Rattle.poptrie_build.specs.Tally.{IsNeed}
 use Rattle.poptrie_build.specs.declared.counts.Needs.{Needs}
@@ -216,4 +216,4 @@ pub way_end : (n : Needs) (d : ℕ) (f : List Bool → ℕ) (p : List Bool) → 
 way_end n d f p none i zero h = absurd (let m = mixed_bits d f none in omega arith)
 way_end n d f p none i (suc k) h =
     let all = i k (omega arith) in
-    record { nodes = all.nodes ∙ ap told (sym (way_nodes_is k d f p none)); leaves = all.leaves ∙ ap told (sym (way_leaves_is k d f p none)) }
+    record { nodes = all.nodes ∙ ap need_in_u64 (sym (way_nodes_is k d f p none)); leaves = all.leaves ∙ ap need_in_u64 (sym (way_leaves_is k d f p none)) }

@@ -3,7 +3,7 @@ use Rattle.std.specs.Prelude.{◌≤◌, ℕ, ◌+◌, ◌^◌, Option, Some, No
 use Rattle.table_model.specs.declared.family.Family.{Family}
 use Rattle.table_model.specs.declared.family.Family.TheVariants.{V4, V6}
 use Rattle.table_model.specs.Entries.{Entries}
-use Rattle.poptrie_build.specs.Need.{told}
+use Rattle.poptrie_build.specs.Need.{need_in_u64}
 use Rattle.poptrie_build.specs.Tries.{node_need, leaf_need}
 use Rattle.poptrie_build.specs.declared.counts.Needs.{Needs}
 use Rattle.route_tries.specs.declared.sizes.Sizes as code_sizes
@@ -45,7 +45,7 @@ needs_of s L = needs_of_both s L L
 
 -- needs as they are told in u64s
 abbrev pub told_need : Needs → Needs
-told_need n = record { nodes = told n.nodes; leaves = told n.leaves }
+told_need n = record { nodes = need_in_u64 n.nodes; leaves = need_in_u64 n.leaves }
 
 abbrev pub told_needs : FamilyNeeds → FamilyNeeds
 told_needs n = record { v4 = told_need n.v4; v6 = told_need n.v6 }
@@ -54,7 +54,7 @@ told_needs n = record { v4 = told_need n.v4; v6 = told_need n.v6 }
 
 -- what is short of this arena, or where its places are enough, what is said of the arenas after it
 abbrev pub short_or : (arena need have : ℕ) → Option Shortage → Option Shortage
-short_or arena need have later = cond (nat_lt have need) (Some (record { arena = arena; need = told need; have = have })) later
+short_or arena need have later = cond (nat_lt have need) (Some (record { arena = arena; need = need_in_u64 need; have = have })) later
 
 -- of one family's trie, whose arenas are numbered from the first on: its nodes, or else its leaves
 abbrev pub short_of_one : Family → Sizes → ℕ → Entries → Option Shortage → Option Shortage

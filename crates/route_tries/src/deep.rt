@@ -7,7 +7,7 @@
 ghost use Rattle.std.specs.Prelude.{◌≡◌, ℕ, ◌+◌, ◌-◌, ◌*◌, ◌<◌, ◌≤◌, None, take};
 ghost use Rattle.table_model.specs.Bits.{bits_of};
 ghost use Rattle.fib_addr.specs.Answers.{one_answer, part};
-ghost use Rattle.poptrie_build.specs.Need.{told};
+ghost use Rattle.poptrie_build.specs.Need.{need_in_u64};
 ghost use Rattle.poptrie_build.specs.Strides.{mixed};
 ghost use Rattle.route_tries.specs.Parts.{answer_beside, other_than, lasts, deep_nodes, deep_leaves};
 
@@ -81,10 +81,10 @@ fn count_deep<R: Region>(region: &R, q: u128, left: u8) -> Needs
     requires few { left ≤ 128 }
     requires within { left ≤ R.bits region.now }
     ensures nodes { (k : ℕ) → R.bits region.now ≤ 6 * k
-        → result.nodes ≡ told (deep_nodes k (R.bits region.now) (R.answers region.now)
+        → result.nodes ≡ need_in_u64 (deep_nodes k (R.bits region.now) (R.answers region.now)
         (bits_of left q)) }
     ensures leaves { (k : ℕ) → R.bits region.now ≤ 6 * k
-        → result.leaves ≡ told (deep_leaves k (R.bits region.now) (R.answers region.now)
+        → result.leaves ≡ need_in_u64 (deep_leaves k (R.bits region.now) (R.answers region.now)
         (bits_of left q)) }
 {
     if left <= 6 {
@@ -103,10 +103,10 @@ pub(crate) fn count_slot<R: Region>(region: &R, q: u128, left: u8) -> Needs
     requires few { left ≤ 128 }
     requires within { left ≤ R.bits region.now }
     ensures nodes { (k : ℕ) → R.bits region.now ≤ 6 * k
-        → result.nodes ≡ told (mixed (one_answer (R.bits region.now) (R.answers region.now))
+        → result.nodes ≡ need_in_u64 (mixed (one_answer (R.bits region.now) (R.answers region.now))
         + deep_nodes k (R.bits region.now) (R.answers region.now) (bits_of left q)) }
     ensures leaves { (k : ℕ) → R.bits region.now ≤ 6 * k
-        → result.leaves ≡ told (deep_leaves k (R.bits region.now) (R.answers region.now)
+        → result.leaves ≡ need_in_u64 (deep_leaves k (R.bits region.now) (R.answers region.now)
         (bits_of left q)) }
 {
     match region.only() {

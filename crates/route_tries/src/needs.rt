@@ -3,7 +3,7 @@
 ghost use Rattle.std.specs.Prelude.{◌≡◌, ◌≤◌, ◌^◌, ℕ, Some, None, OnOk, IfErr, option_map};
 ghost use Rattle.table_model.specs.declared.family.Family.TheVariants.{V4, V6};
 ghost use Rattle.fib_addr.specs.Views.{prefix_as};
-ghost use Rattle.poptrie_build.specs.Need.{told};
+ghost use Rattle.poptrie_build.specs.Need.{need_in_u64};
 ghost use Rattle.route_tries.specs.Sizes.{need_of as need_in, told_need, told_needs, needs_of_both, first_short, short_or as short_in, sizes_as, shortage_as};
 ghost use Rattle.route_tries.specs.Parts.{AreMoved, IsNeedAfter, need_at as need_at_prefix};
 
@@ -50,8 +50,8 @@ pub fn need_at(tree: &Tree, direct: u8, prefix: &Prefix) -> Needs
 
 /// A need as a whole, without what a part needed, and with what the part needs now.
 fn moved(whole: u64, before: u64, after: u64) -> u64
-    ensures { (n m pn pm : ℕ) → whole ≡ n → before ≡ told pn → after ≡ told pm
-        → AreMoved n m pn pm → result ≡ told m }
+    ensures { (n m pn pm : ℕ) → whole ≡ n → before ≡ need_in_u64 pn → after ≡ need_in_u64 pm
+        → AreMoved n m pn pm → result ≡ need_in_u64 m }
 {
     whole.saturating_sub(before).saturating_add(after)
 }

@@ -4,10 +4,10 @@ ghost use Rattle.std.specs.Prelude.{◌≡◌, ◌≤◌, ◌+◌, take};
 ghost use Rattle.table_model.specs.Width.{width};
 ghost use Rattle.fib_addr.specs.Views.{prefix_as};
 ghost use Rattle.fib_addr.specs.Answers.{all_answers, part};
-ghost use Rattle.orig_tree.specs.Spots.{answers_in};
+ghost use Rattle.orig_tree.specs.Spots.{spot_answers};
 
 use fib_addr::{Hop, Prefix, Region};
-use orig_tree::{Region as TreeRegion, Tree};
+use orig_tree::{Tree, TreeRegion};
 
 /// The region of a prefix in a tree of routes. A half is one step down, and what all addresses get costs no walk: a tree keeps
 /// it.
@@ -19,7 +19,7 @@ pub struct RouteRegion<'a> {
 impl<'a> Region for RouteRegion<'a> {
     ghost bits = { λ r. r.region.bits };
 
-    ghost answers = { λ r. answers_in r.region };
+    ghost answers = { λ r. spot_answers r.region };
 
     fn only(&self) -> Option<Hop> {
         match self.region.leaf() {
@@ -39,7 +39,7 @@ impl<'a> RouteRegion<'a> {
     /// The region of all addresses of the tree's family.
     pub fn whole(tree: &'a Tree) -> Self
         ensures bits { result.region.bits ≡ width tree.now.family }
-        ensures answers { answers_in result.region ≡ all_answers tree.now.family tree.now.routes }
+        ensures answers { spot_answers result.region ≡ all_answers tree.now.family tree.now.routes }
     {
         RouteRegion {
             region: tree.region(&Prefix::whole(tree.family())),
@@ -51,7 +51,7 @@ impl<'a> RouteRegion<'a> {
         requires family { prefix.now.family ≡ tree.now.family }
         requires few { depth ≤ prefix.now.len }
         ensures bits { result.region.bits + depth ≡ width tree.now.family }
-        ensures answers { answers_in result.region ≡ part (take depth (prefix_as prefix.now).bits)
+        ensures answers { spot_answers result.region ≡ part (take depth (prefix_as prefix.now).bits)
             (all_answers tree.now.family tree.now.routes) }
     {
         let first = Prefix::new(&prefix.first_addr(), depth);

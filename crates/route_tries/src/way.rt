@@ -3,7 +3,7 @@
 ghost use Rattle.std.specs.Prelude.{◌≡◌, ℕ, ◌+◌, ◌*◌, ◌^◌, ◌≤◌, ◌<◌, List, Bool, None};
 ghost use Rattle.table_model.specs.Bits.{bits_of};
 ghost use Rattle.fib_addr.specs.Answers.{one_answer};
-ghost use Rattle.poptrie_build.specs.Need.{told};
+ghost use Rattle.poptrie_build.specs.Need.{need_in_u64};
 ghost use Rattle.poptrie_build.specs.Strides.{mixed};
 ghost use Rattle.poptrie_build.specs.Tally.{AreParts, IsTally};
 ghost use Rattle.route_tries.specs.Parts.{way_nodes, way_leaves};
@@ -20,10 +20,10 @@ pub(crate) fn count_way<R: Region>(region: &R, q: u128, left: u8) -> Needs
     requires mixed { one_answer (R.bits region.now) (R.answers region.now) ≡ None }
     requires few { left ≤ 128 }
     ensures nodes { (k : ℕ) → R.bits region.now ≤ 6 * k
-        → result.nodes ≡ told (way_nodes k (R.bits region.now) (R.answers region.now)
+        → result.nodes ≡ need_in_u64 (way_nodes k (R.bits region.now) (R.answers region.now)
         (bits_of left q)) }
     ensures leaves { (k : ℕ) → R.bits region.now ≤ 6 * k
-        → result.leaves ≡ told (way_leaves k (R.bits region.now) (R.answers region.now)
+        → result.leaves ≡ need_in_u64 (way_leaves k (R.bits region.now) (R.answers region.now)
         (bits_of left q)) }
 {
     let mut tally = Tally::new();

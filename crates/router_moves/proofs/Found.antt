@@ -9,7 +9,7 @@ use Rattle.table_model.specs.declared.family.Family.TheVariants.{V4, V6}
 use Rattle.table_model.specs.Entries.{Entries, in_order}
 use Rattle.table_model.specs.Changes.{Change}
 use Rattle.kept_model.specs.Between.{place_of}
-use Rattle.steady_model.specs.Steady.{AnswerSteadily}
+use Rattle.kept_model.specs.Steady.{AnswerSteadily}
 use Rattle.cert_model.specs.Rows.{CertRow}
 use Rattle.fib_addr.specs.Views.{entry_as}
 use Rattle.fib_addr.specs.declared.entry.Entry.{Entry}
@@ -19,11 +19,11 @@ use Rattle.fib_delta.specs.declared.change.Change.TheVariants as code
 use Rattle.fib_delta.proofs.Held.{is_prefix}
 use Rattle.fib_moves.specs.declared.answer.Near.{Near}
 use Rattle.cert_model.specs.Views.{row_as}
-use Rattle.moves_cert.specs.Shortest.{AreProvedShortest, AreShortest}
-use Rattle.router_model.specs.Both.{AreShortestInBoth, both_changes, family_changes, family_table, proving_rows, told_in}
-use Rattle.router_model.proofs.Told.{own_proved, own_shortest, shortest_both, steadily_both, told_both}
-use Rattle.router_moves.specs.Due.{Asked, ShortestMoves, moves_for}
-use Rattle.router_moves.specs.Views.{AreShortestFor, IsShortest, moves_as}
+use Rattle.moves_model.specs.Shortest.{AreProvedShortest, AreShortest}
+use Rattle.moves_model.specs.Both.{AreShortestInBoth, both_changes, family_changes, family_table, proving_rows, told_in}
+use Rattle.moves_model.proofs.Told.{own_proved, own_shortest, shortest_both, steadily_both, told_both}
+use Rattle.router_moves.specs.Due.{RouterTables, ShortestMoves, moves_for}
+use Rattle.router_moves.specs.Views.{AreShortestFor, IsShortest, shortest_as}
 use Rattle.router_moves.specs.declared.answer.RouterMoves.{RouterMoves}
 
 pub prefixes_fit : (E : List Entry) → AllByRecursion IsPrefix (keys_of (map entry_as E))
@@ -61,17 +61,17 @@ module _ (steady : Bool) (table routes : List Entry) (m : RouterMoves) (low : ma
   abbrev T : Entries
   T = map entry_as table
 
-  all : (moves_as m).changes ≡ told_in steady (both_changes R T)
+  all : (shortest_as m).changes ≡ told_in steady (both_changes R T)
   all =
       ap (λ cs. cs ++ map change_as m.v6.changes.items) low
       ∙ (ap (λ cs. told_in steady (family_changes V4 R T) ++ cs) high ∙ sym (told_both R T (prefixes_fit routes) (prefixes_fit table) steady))
 
-  abbrev pub asked_of : Asked
+  abbrev pub asked_of : RouterTables
   asked_of = record { table = T; routes = R; hops = m.hops.list }
 
-  pub are_moves : map row_as m.v4.rows.items ≡ proving_rows V4 R T → map row_as m.v6.rows.items ≡ proving_rows V6 R T → moves_as m ≡ moves_for steady asked_of
+  pub are_moves : map row_as m.v4.rows.items ≡ proving_rows V4 R T → map row_as m.v6.rows.items ≡ proving_rows V6 R T → shortest_as m ≡ moves_for steady asked_of
   are_moves low-rows high-rows =
-      ap (λ (cs : List Change). let s : ShortestMoves = record { changes = cs; rows = (moves_as m).rows; hops = m.hops.list } in s) all
+      ap (λ (cs : List Change). let s : ShortestMoves = record { changes = cs; rows = (shortest_as m).rows; hops = m.hops.list } in s) all
       ∙ (ap (λ (rows : List CertRow). let s : ShortestMoves = record { changes = told_in steady (both_changes R T); rows = rows ++ map row_as m.v6.rows.items; hops = m.hops.list } in s) low-rows
       ∙ ap (λ (rows : List CertRow). let s : ShortestMoves = record { changes = told_in steady (both_changes R T); rows = proving_rows V4 R T ++ rows; hops = m.hops.list } in s) high-rows)
 
@@ -79,7 +79,7 @@ module _ (steady : Bool) (table routes : List Entry) (m : RouterMoves) (low : ma
   are_shortest_for v4 v6 = record {
     both = subst (AreShortestInBoth (in_order R) (in_order T)) (sym all) (shortest_both R T (prefixes_fit routes) (prefixes_fit table) steady);
     steadily = λ is.
-        let told : (moves_as m).changes ≡ told_in true (both_changes R T) = all ∙ ap (λ (b : Bool). told_in b (both_changes R T)) is in
+        let told : (shortest_as m).changes ≡ told_in true (both_changes R T) = all ∙ ap (λ (b : Bool). told_in b (both_changes R T)) is in
         subst (λ (cs : List Change). AnswerSteadily cs (in_order T) (in_order T) (in_order R)) (sym told) (steadily_both R T (prefixes_fit routes) (prefixes_fit table));
     v4 = v4;
     v6 = v6;

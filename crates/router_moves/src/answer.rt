@@ -1,7 +1,7 @@
 //! The shortest lists of changes of both families.
 
 ghost use Rattle.std.specs.Prelude.{◌≡◌, length};
-ghost use Rattle.router_moves.specs.Views.{moves_as};
+ghost use Rattle.router_moves.specs.Views.{shortest_as};
 
 use fib_addr::HopTable;
 use fib_moves::Near;
@@ -20,7 +20,7 @@ pub struct RouterMoves {
 impl RouterMoves {
     /// How many changes there are in both families.
     pub fn count(&self) -> u64
-        ensures { result ≡ length (moves_as self.now).changes }
+        ensures { result ≡ length (shortest_as self.now).changes }
     {
         self.v4.changes.len() as u64 + self.v6.changes.len() as u64
     }

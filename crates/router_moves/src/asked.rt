@@ -3,15 +3,15 @@
 ghost use Rattle.std.specs.Prelude.{◌≡◌, ◌≤◌, ◌∷◌, [], length, OnOk};
 ghost use Rattle.fib_addr.specs.Hops.{most_hops};
 ghost use Rattle.fib_io.specs.Reads.{Makes};
-ghost use Rattle.fib_same.specs.Gives.{GivesDue, ReadsNames};
-ghost use Rattle.fib_same.specs.Passes.{ReadsOf, numbered};
-ghost use Rattle.router_moves.specs.Due.{asked_at, names_asked};
-ghost use Rattle.router_moves.specs.Asking.{asked_as};
+ghost use Rattle.fib_same.specs.Gives.{ReturnsDue, ReadsNamedTexts};
+ghost use Rattle.fib_same.specs.Passes.{ReadsOfTexts, numbered_texts};
+ghost use Rattle.router_moves.specs.Due.{router_at, names_asked};
+ghost use Rattle.router_moves.specs.Asking.{tables_as};
 
-use cost_cert::Kind;
 use fib_addr::{Entry, HopTable};
 use fib_io::Inputs;
 use fib_same::{SameError, read_text};
+use printed_text::Kind;
 use std::alloc::Global;
 
 /// What two texts say.
@@ -37,14 +37,14 @@ pub(crate) fn read_asked<I: Inputs>(
     hops: &mut HopTable,
 ) -> Result<Asked, SameError>
     requires { hops.old.list ≡ [] }
-    ensures due { GivesDue (λ a. asked_as a hops.new) result
-        (asked_at (I.content inputs.old) router.now printed.now) }
+    ensures due { ReturnsDue (λ a. tables_as a hops.new) result
+        (router_at (I.content inputs.old) router.now printed.now) }
     ensures few { OnOk result (length hops.new.list ≤ most_hops) }
     ensures same { I.content inputs.new ≡ I.content inputs.old }
-    ensures cause { ReadsNames (names_asked (I.content inputs.old) router.now printed.now)
+    ensures cause { ReadsNamedTexts (names_asked (I.content inputs.old) router.now printed.now)
         (I.faults inputs.old) (I.faults inputs.new) result }
     ensures reads { Makes (I.reads inputs.old) (I.reads inputs.new)
-        (ReadsOf (numbered 1 (router.now ∷ printed.now ∷ [])) result) }
+        (ReadsOfTexts (numbered_texts 1 (router.now ∷ printed.now ∷ [])) result) }
 {
     let table = read_text(alloc, inputs, router, 1, Kind::Least, hops)?;
     let routes = read_text(alloc, inputs, printed, 2, Kind::Route, hops)?;

@@ -3,23 +3,23 @@
 ghost use Rattle.std.specs.Prelude.{◌≡◌, ◌≤◌, ◌∷◌, [], length, option_map, IfOk, IfSome, None};
 ghost use Rattle.fib_addr.specs.Hops.{most_hops};
 ghost use Rattle.fib_io.specs.Reads.{Makes};
-ghost use Rattle.fib_same.specs.Gives.{GivesDue, IsOfText, ReadsNames};
-ghost use Rattle.fib_same.specs.Passes.{ReadsOf, numbered};
-ghost use Rattle.printed_moves.specs.Said.{said_in};
-ghost use Rattle.printed_moves.specs.Views.{said_as};
-ghost use Rattle.router_model.specs.Claims.{IsProved, IsProvedIn, claim_verdict, wrong_in};
-ghost use Rattle.router_moves.specs.Checked.{claimed_at, lined, names_claimed, said_at, verdict_at};
-ghost use Rattle.router_moves.specs.Judged.{EndsJudged, claim_as, verdict_as, wrong_as};
+ghost use Rattle.fib_same.specs.Gives.{ReturnsDue, IsOfText, ReadsNamedTexts};
+ghost use Rattle.fib_same.specs.Passes.{ReadsOfTexts, numbered_texts};
+ghost use Rattle.router_moves.specs.Said.{said_in};
+ghost use Rattle.router_moves.specs.SaidViews.{said_moves_as};
+ghost use Rattle.moves_model.specs.Claims.{IsProved, IsProvedIn, claim_verdict, wrong_claim};
+ghost use Rattle.router_moves.specs.Checked.{claimed_at, lined_moves, names_claimed, said_moves_at, verdict_at};
+ghost use Rattle.router_moves.specs.Judged.{EndsJudged, claim_as, verdict_as, wrong_moves_as};
 
 use crate::asked::{Asked, read_asked};
 use crate::own::{own_changes, own_entries, own_rows};
 use crate::verdict::{MovesVerdict, WrongMoves};
-use cost_cert::PrintedError;
+use crate::{PrintedMoves, read_moves};
 use fib_addr::{Family, HopTable};
 use fib_io::Inputs;
 use fib_same::{SameError, octets_of};
 use moves_check::{MovesError, check_moves};
-use printed_moves::{PrintedMoves, read_moves};
+use printed_text::PrintedError;
 use std::alloc::{AllocError, Global};
 
 /// What is claimed: the changes make the table answer as the routes do, no fewer would, and the rows prove it.
@@ -31,7 +31,7 @@ struct Claim {
 
 /// What is wrong with what is claimed of a family.
 fn wrong_in(alloc: Global, family: Family, claim: &Claim) -> Result<Option<WrongMoves>, AllocError>
-    ensures wrong { IfOk result (λ w. option_map wrong_as w ≡ wrong_in family (claim_as claim.now)) }
+    ensures wrong { IfOk result (λ w. option_map wrong_moves_as w ≡ wrong_claim family (claim_as claim.now)) }
     ensures yes { IfOk result (λ w. w ≡ None → IsProvedIn family (claim_as claim.now)) }
     ensures no { IfOk result (λ w. IfSome w (λ x. IsProvedIn x.family (claim_as claim.now) → ⊥)) }
 {
@@ -50,7 +50,7 @@ fn wrong_in(alloc: Global, family: Family, claim: &Claim) -> Result<Option<Wrong
 
 /// The first thing that is wrong, in IPv4 or else in IPv6.
 fn first_wrong(alloc: Global, claim: &Claim) -> Result<Option<WrongMoves>, AllocError>
-    ensures wrong { IfOk result (λ w. option_map wrong_as w ≡ claim_verdict (claim_as claim.now)) }
+    ensures wrong { IfOk result (λ w. option_map wrong_moves_as w ≡ claim_verdict (claim_as claim.now)) }
     ensures yes { IfOk result (λ w. w ≡ None → IsProved (claim_as claim.now)) }
     ensures no { IfOk result (λ w. IfSome w (λ x. IsProvedIn x.family (claim_as claim.now) → ⊥)) }
 {
@@ -63,8 +63,8 @@ fn first_wrong(alloc: Global, claim: &Claim) -> Result<Option<WrongMoves>, Alloc
 /// The changes and rows that a text with these octets says, which are let go once it is read. It is text 3.
 fn said_of(alloc: Global, octets: Vec<u8>, hops: &mut HopTable) -> Result<PrintedMoves, SameError>
     requires { length hops.old.list ≤ most_hops }
-    ensures due { GivesDue (λ s. said_as s hops.new) result
-        (lined 3 (said_in hops.old.list octets.items)) }
+    ensures due { ReturnsDue (λ s. said_moves_as s hops.new) result
+        (lined_moves 3 (said_in hops.old.list octets.items)) }
     ensures of_text { IsOfText 3 result }
 {
     match read_moves(alloc, &octets, hops) {
@@ -79,7 +79,7 @@ fn said_of(alloc: Global, octets: Vec<u8>, hops: &mut HopTable) -> Result<Printe
 }
 
 /// The changes and rows that the text of this name says, which is text 3. It is read to its end and then judged.
-#[tactic(auto, unfolding(crate::specs::Checked::said_at))]
+#[tactic(auto, unfolding(crate::specs::Checked::said_moves_at))]
 fn read_said<I: Inputs>(
     alloc: Global,
     inputs: &mut I,
@@ -87,12 +87,12 @@ fn read_said<I: Inputs>(
     hops: &mut HopTable,
 ) -> Result<PrintedMoves, SameError>
     requires { length hops.old.list ≤ most_hops }
-    ensures due { GivesDue (λ s. said_as s hops.new) result
-        (said_at (I.content inputs.old) hops.old.list 3 name.now) }
+    ensures due { ReturnsDue (λ s. said_moves_as s hops.new) result
+        (said_moves_at (I.content inputs.old) hops.old.list 3 name.now) }
     ensures same { I.content inputs.new ≡ I.content inputs.old }
-    ensures cause { ReadsNames (name.now ∷ []) (I.faults inputs.old) (I.faults inputs.new) result }
+    ensures cause { ReadsNamedTexts (name.now ∷ []) (I.faults inputs.old) (I.faults inputs.new) result }
     ensures reads { Makes (I.reads inputs.old) (I.reads inputs.new)
-        (ReadsOf ((3, name.now) ∷ []) result) }
+        (ReadsOfTexts ((3, name.now) ∷ []) result) }
 {
     let octets = octets_of(alloc, inputs, name, 3)?;
     said_of(alloc, octets, hops)
@@ -115,15 +115,15 @@ pub fn check_router_moves<I: Inputs>(
     printed: &str,
     moves: &str,
 ) -> Result<MovesVerdict, SameError>
-    ensures due { GivesDue verdict_as result
+    ensures due { ReturnsDue verdict_as result
         (verdict_at (I.content inputs.old) router.now printed.now moves.now) }
     ensures judged { IfOk result (EndsJudged
         (claimed_at (I.content inputs.old) router.now printed.now moves.now)) }
     ensures same { I.content inputs.new ≡ I.content inputs.old }
-    ensures cause { ReadsNames (names_claimed (I.content inputs.old) router.now printed.now moves.now)
+    ensures cause { ReadsNamedTexts (names_claimed (I.content inputs.old) router.now printed.now moves.now)
         (I.faults inputs.old) (I.faults inputs.new) result }
     ensures reads { Makes (I.reads inputs.old) (I.reads inputs.new)
-        (ReadsOf (numbered 1 (router.now ∷ printed.now ∷ moves.now ∷ [])) result) }
+        (ReadsOfTexts (numbered_texts 1 (router.now ∷ printed.now ∷ moves.now ∷ [])) result) }
 {
     let mut hops = HopTable::new(alloc);
     let asked = read_asked(alloc, inputs, router, printed, &mut hops)?;

@@ -7,16 +7,15 @@ ghost use Rattle.kept_model.specs.Between.{place_of};
 ghost use Rattle.fib_addr.specs.Views.{entry_as};
 ghost use Rattle.fib_delta.specs.Views.{change_as};
 ghost use Rattle.cert_model.specs.Views.{row_as};
-ghost use Rattle.router_model.specs.Both.{family_changes, proving_rows, told_in};
+ghost use Rattle.moves_model.specs.Both.{family_changes, proving_rows, told_in};
 ghost use Rattle.router_moves.specs.Views.{IsShortest};
 
 use crate::asked::Asked;
 use fib_addr::Family;
-use fib_delta::Change;
+use fib_delta::{Change, put_in_steady_order};
 use fib_moves::{Near, near};
 use orig_tree::Tree;
 use std::alloc::{AllocError, Global};
-use steady_order::put_in_steady_order;
 
 /// Leaves changes in the order of prefixes, or puts them in steady order.
 fn put_in_order(changes: &mut [Change], steady: bool)
@@ -45,7 +44,7 @@ pub(crate) fn family_moves(
         (map entry_as asked.now.table.items)) }
 {
     let tree = Tree::load(alloc, family, &asked.routes)?;
-    let tree = tree.enter_all(&asked.table)?;
+    let tree = tree.insert_entries(&asked.table)?;
     let mut moves = near(alloc, &tree)?;
     put_in_order(&mut moves.changes, steady);
     Ok(moves)

@@ -10,10 +10,12 @@ mod asked;
 mod check;
 mod family;
 mod own;
+mod read;
 mod router;
 mod verdict;
 
 pub use answer::RouterMoves;
 pub use check::check_router_moves;
+pub use read::{PrintedMoves, read_moves};
 pub use router::moves_to_routes;
 pub use verdict::{MovesVerdict, WrongMoves};

@@ -6,8 +6,8 @@ ghost use Rattle.fib_delta.specs.Views.{change_as};
 ghost use Rattle.cert_model.specs.Views.{row_as};
 ghost use Rattle.kept_model.specs.Between.{place_of};
 ghost use Rattle.moves_check.specs.Views.{AreChangesOf, AreEntriesOf, AreRowsOf};
-ghost use Rattle.router_model.specs.Both.{own_entries};
-ghost use Rattle.router_model.specs.Claims.{family_of_row, own_changes, own_rows};
+ghost use Rattle.moves_model.specs.Both.{own_entries};
+ghost use Rattle.moves_model.specs.Claims.{family_of_row, own_changes, own_rows};
 
 use cert_model::Row;
 use fib_addr::{Entry, Family};

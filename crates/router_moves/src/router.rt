@@ -2,10 +2,10 @@
 
 ghost use Rattle.std.specs.Prelude.{◌≡◌, [], ◌∷◌, IfOk};
 ghost use Rattle.fib_io.specs.Reads.{Makes};
-ghost use Rattle.fib_same.specs.Gives.{GivesDue, ReadsNames};
-ghost use Rattle.fib_same.specs.Passes.{ReadsOf, numbered};
-ghost use Rattle.router_moves.specs.Due.{asked_at, moves_at, names_asked};
-ghost use Rattle.router_moves.specs.Views.{EndsShortest, moves_as};
+ghost use Rattle.fib_same.specs.Gives.{ReturnsDue, ReadsNamedTexts};
+ghost use Rattle.fib_same.specs.Passes.{ReadsOfTexts, numbered_texts};
+ghost use Rattle.router_moves.specs.Due.{router_at, moves_at, names_asked};
+ghost use Rattle.router_moves.specs.Views.{EndsShortest, shortest_as};
 
 use crate::answer::RouterMoves;
 use crate::asked::read_asked;
@@ -33,15 +33,15 @@ pub fn moves_to_routes<I: Inputs>(
     printed: &str,
     steady: bool,
 ) -> Result<RouterMoves, SameError>
-    ensures due { GivesDue moves_as result
+    ensures due { ReturnsDue shortest_as result
         (moves_at (I.content inputs.old) router.now printed.now steady) }
     ensures shortest { IfOk result (EndsShortest steady
-        (asked_at (I.content inputs.old) router.now printed.now)) }
+        (router_at (I.content inputs.old) router.now printed.now)) }
     ensures same { I.content inputs.new ≡ I.content inputs.old }
-    ensures cause { ReadsNames (names_asked (I.content inputs.old) router.now printed.now)
+    ensures cause { ReadsNamedTexts (names_asked (I.content inputs.old) router.now printed.now)
         (I.faults inputs.old) (I.faults inputs.new) result }
     ensures reads { Makes (I.reads inputs.old) (I.reads inputs.new)
-        (ReadsOf (numbered 1 (router.now ∷ printed.now ∷ [])) result) }
+        (ReadsOfTexts (numbered_texts 1 (router.now ∷ printed.now ∷ [])) result) }
 {
     let mut hops = HopTable::new(alloc);
     let asked = read_asked(alloc, inputs, router, printed, &mut hops)?;

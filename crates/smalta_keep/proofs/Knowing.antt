@@ -16,21 +16,21 @@ use Rattle.table_model.proofs.Both.{family_is}
 use Rattle.table_model.proofs.Region.{cut_lift}
 use Rattle.route_model.proofs.Keyed.{lookup-put}
 use Rattle.route_model.proofs.Places.{prefix_key}
-use Rattle.kept_model.specs.Between.{hop_at}
+use Rattle.kept_model.specs.Between.{entry_hop_at}
 use Rattle.kept_model.specs.Patched.{with_route, patch_of, after_repair, after_snapshot, region_aggregate}
 use Rattle.kept_model.proofs.Patches.{family_hop, table_hop, hop_patched}
 use Rattle.table_model.proofs.Patch.{cut_cut, same_above}
 use Rattle.table_model.specs.Halves.{is_within}
-use Rattle.kept_model.specs.Stays.{Stays, is_wide, Settled, HasMarks, IsMarked, IsMended}
+use Rattle.kept_model.specs.Stays.{Stays, is_wide_mark, Settled, HasMarks, IsMarked, GetsMark}
 use Rattle.kept_model.proofs.Again.{stays_again}
 use Rattle.kept_model.proofs.Settling.{above_nil, all_settled, settled_more, settled_after, settled_mended, stays_same}
 use Rattle.orig_tree.specs.Views.{Labels, InPlace}
 use Rattle.orig_tree.proofs.Arena.{begins_self}
 use Rattle.table_model.proofs.SamePrefix.{same_family_itself}
-use Rattle.kept_pass.specs.Known.{IsSettled, IsKnown, IsKnownBefore}
-use Rattle.kept_pass.proofs.Within.{entry_lift}
+use Rattle.smalta_keep.specs.KnownBelow.{IsSettled, IsKnown, IsKnownBefore}
+use Rattle.smalta_keep.proofs.Within.{entry_lift}
 use Rattle.smalta_keep.specs.declared.routes.Former.{Former}
-use Rattle.smalta_keep.specs.Known.{IsOfFamily, IsTouched, IsTouchedAt, IsEased, IsEasedAt, IsWhole, AreMore, AreWide, AreLeft, KnownAt, IsKnownToMend, StaysAt, SameBeside}
+use Rattle.smalta_keep.specs.Known.{IsOfFamily, IsTouched, IsTouchedAt, IsEased, IsEasedAt, IsWholeSpace, AreMore, AreWide, AreLeft, KnownAt, IsKnownToMend, StaysAt, SameBeside}
 use Rattle.smalta_keep.specs.Routes.{put_back_in, undone_in, former_place}
 use Rattle.smalta_keep.specs.Views.{with_planned, place_in}
 use Rattle.smalta_keep.proofs.Making.{routed_elsewhere, put_back_hop}
@@ -44,27 +44,27 @@ Route = Option (code_prefix.Prefix × code_hop.Hop)
 
 -- ---- families
 
--- ---- marks
+-- ---- dirty prefixes
 
 some_none : (h : ℕ) → Some h ≡ None → ⊥
 some_none h e = cc
 
 -- a prefix is marked with a hop
 module _ (p : Prefix) (h : ℕ) (m n : Labels) (e : p.family ≡ m.family) (x : IsPrefix p) (s : InPlace m.entries) (f : n.family ≡ m.family) (g : n.entries ≡ with_entry m.entries (p, h)) where
-  told : (r : List Bool) → entry_at r (of_family m.family n.entries) ≡ cond (same_prefix (record { family = m.family; bits = r }) p) (Some h) (hop_at (record { family = m.family; bits = r }) m.entries)
-  told r = let y : Prefix = record { family = m.family; bits = r } in family_hop m.family r n.entries ∙ (ap (hop_at y) g ∙ lookup-put prefix_key y m.entries p h s.0 x)
+  told : (r : List Bool) → entry_at r (of_family m.family n.entries) ≡ cond (same_prefix (record { family = m.family; bits = r }) p) (Some h) (entry_hop_at (record { family = m.family; bits = r }) m.entries)
+  told r = let y : Prefix = record { family = m.family; bits = r } in family_hop m.family r n.entries ∙ (ap (entry_hop_at y) g ∙ lookup-put prefix_key y m.entries p h s.0 x)
 
   set_here : entry_at p.bits (of_family m.family n.entries) ≡ Some h
   set_here =
       let y : Prefix = record { family = m.family; bits = p.bits } in
       let itself : same_prefix y p ≡ true = ap (λ (k : Family). same_prefix (record { family = k; bits = p.bits }) p) (sym e) ∙ prefix_key.itself p in
-      told p.bits ∙ ap (λ b. cond b (Some h) (hop_at y m.entries)) itself
+      told p.bits ∙ ap (λ b. cond b (Some h) (entry_hop_at y m.entries)) itself
 
   set_else : (r : List Bool) → same_prefix (record { family = m.family; bits = r }) p ≡ false → entry_at r (of_family m.family n.entries) ≡ entry_at r (of_family m.family m.entries)
-  set_else r t = let y : Prefix = record { family = m.family; bits = r } in told r ∙ (ap (λ b. cond b (Some h) (hop_at y m.entries)) t ∙ sym (family_hop m.family r m.entries))
+  set_else r t = let y : Prefix = record { family = m.family; bits = r } in told r ∙ (ap (λ b. cond b (Some h) (entry_hop_at y m.entries)) t ∙ sym (family_hop m.family r m.entries))
 
   set_same : (r : List Bool) → same_prefix (record { family = m.family; bits = r }) p ≡ true → entry_at r (of_family m.family n.entries) ≡ Some h
-  set_same r t = let y : Prefix = record { family = m.family; bits = r } in told r ∙ ap (λ b. cond b (Some h) (hop_at y m.entries)) t
+  set_same r t = let y : Prefix = record { family = m.family; bits = r } in told r ∙ ap (λ b. cond b (Some h) (entry_hop_at y m.entries)) t
 
   pub eased_one : IsEased p (Some m) (Some n)
   eased_one = (f, record { marked = λ z. some_none h (sym set_here ∙ z); others = λ r i. by_test r i (same_prefix (record { family = m.family; bits = r }) p) refl })
@@ -74,15 +74,15 @@ module _ (p : Prefix) (h : ℕ) (m n : Labels) (e : p.family ≡ m.family) (x : 
       by_test r i false t = set_else r t
 
   pub touched_one : h ≡ 1 → IsTouched p (Some m) (Some n)
-  touched_one w = (f, record { kept = record { there = λ r z. there r (same_prefix (record { family = m.family; bits = r }) p) refl z; wide = λ r z. wide r (same_prefix (record { family = m.family; bits = r }) p) refl z }; marked = ap is_wide set_here ∙ ap (λ k. is_wide (Some k)) w })
+  touched_one w = (f, record { kept = record { there = λ r z. there r (same_prefix (record { family = m.family; bits = r }) p) refl z; wide = λ r z. wide r (same_prefix (record { family = m.family; bits = r }) p) refl z }; marked = ap is_wide_mark set_here ∙ ap (λ k. is_wide_mark (Some k)) w })
     where
       there : (r : List Bool) (b : Bool) → same_prefix (record { family = m.family; bits = r }) p ≡ b → entry_at r (of_family m.family n.entries) ≡ None → entry_at r (of_family m.family m.entries) ≡ None
       there r true t z = absurd (some_none h (sym (set_same r t) ∙ z))
       there r false t z = sym (set_else r t) ∙ z
 
-      wide : (r : List Bool) (b : Bool) → same_prefix (record { family = m.family; bits = r }) p ≡ b → is_wide (entry_at r (of_family m.family n.entries)) ≡ false → is_wide (entry_at r (of_family m.family m.entries)) ≡ false
-      wide r true t z = let y : true ≡ false = sym (ap is_wide (set_same r t) ∙ ap (λ k. is_wide (Some k)) w) ∙ z in absurd cc
-      wide r false t z = ap is_wide (sym (set_else r t)) ∙ z
+      wide : (r : List Bool) (b : Bool) → same_prefix (record { family = m.family; bits = r }) p ≡ b → is_wide_mark (entry_at r (of_family m.family n.entries)) ≡ false → is_wide_mark (entry_at r (of_family m.family m.entries)) ≡ false
+      wide r true t z = let y : true ≡ false = sym (ap is_wide_mark (set_same r t) ∙ ap (λ k. is_wide_mark (Some k)) w) ∙ z in absurd cc
+      wide r false t z = ap is_wide_mark (sym (set_else r t)) ∙ z
 
 pub more_touched : (p : Prefix) (t u : Option Labels) → IsTouched p t u → AreMore t u
 more_touched p t None x = tt
@@ -104,7 +104,7 @@ known_touched p k t None a x = tt
 known_touched p k None (Some n) a x = absurd a
 known_touched p k (Some m) (Some n) a x =
     let y : IsKnown k (Some n) = known_more k (Some m) (Some n) (a.0, a.1.kept) x in
-    (y.0, subst (λ (g : Family). is_wide (entry_at p.bits (of_family g n.entries)) ≡ true) x.0 a.1.marked, y.1)
+    (y.0, subst (λ (g : Family). is_wide_mark (entry_at p.bits (of_family g n.entries)) ≡ true) x.0 a.1.marked, y.1)
 
 pub known_at : (at : Option Prefix) (k : Labels) (t u : Option Labels) → IsTouchedAt at t u → IsKnown k t → KnownAt at k u
 known_at None k t u a x = subst (λ (v : Option Labels). IsKnown k v) (sym a) x
@@ -145,12 +145,12 @@ elsewhere p f q n = by_test (same_prefix (record { family = f; bits = q }) p) re
 pub beside_route : (p : Prefix) (f : Family) (h : ℕ) (R S : Entries) → IsPrefix p → InPlace R → S ≡ with_route p h R → SameBeside (Some p) f R S
 beside_route p f h R S x r e q n =
     family_hop f q R
-    ∙ (sym (routed_elsewhere p (record { family = f; bits = q }) h R x r (elsewhere p f q n)) ∙ (ap (hop_at (record { family = f; bits = q })) (sym e) ∙ sym (family_hop f q S)))
+    ∙ (sym (routed_elsewhere p (record { family = f; bits = q }) h R x r (elsewhere p f q n)) ∙ (ap (entry_hop_at (record { family = f; bits = q })) (sym e) ∙ sym (family_hop f q S)))
 
 pub beside_put_back : (p : Prefix) (f : Family) (o : Option ℕ) (R S : Entries) → IsPrefix p → InPlace R → S ≡ put_back_in p o R → SameBeside (Some p) f R S
 beside_put_back p f o R S x r e q n =
     family_hop f q R
-    ∙ (sym (put_back_hop p (record { family = f; bits = q }) o R x r ∙ ap (λ b. cond b o (hop_at (record { family = f; bits = q }) R)) (elsewhere p f q n)) ∙ (ap (hop_at (record { family = f; bits = q })) (sym e) ∙ sym (family_hop f q S)))
+    ∙ (sym (put_back_hop p (record { family = f; bits = q }) o R x r ∙ ap (λ b. cond b o (entry_hop_at (record { family = f; bits = q }) R)) (elsewhere p f q n)) ∙ (ap (entry_hop_at (record { family = f; bits = q })) (sym e) ∙ sym (family_hop f q S)))
 
 -- a plan's route, and what it left behind
 pub beside_planned : (route : Route) (f : Family) (R S : Entries) → InPlace R → S ≡ with_planned route R → SameBeside (place_in route) f R S
@@ -172,7 +172,7 @@ not_within p f q n = ap (λ b. same_family p.family f && b) n ∙ and_false (sam
 pub beside_patch : (R T : Entries) (p : Prefix) (f : Family) → IsPrefix p → InPlace T → SameBeside (Some p) f T (patch_of R p T)
 beside_patch R T p f x t q n =
     let a : Prefix = record { family = f; bits = q } in
-    family_hop f q T ∙ (sym (hop_patched R T p a x t ∙ ap (λ b. cond b (hop_at a (region_aggregate R p T)) (hop_at a T)) (not_within p f q n)) ∙ sym (family_hop f q (patch_of R p T)))
+    family_hop f q T ∙ (sym (hop_patched R T p a x t ∙ ap (λ b. cond b (entry_hop_at a (region_aggregate R p T)) (entry_hop_at a T)) (not_within p f q n)) ∙ sym (family_hop f q (patch_of R p T)))
 
 -- ---- a snapshot
 
@@ -209,7 +209,7 @@ known_planned route k l u r x f s e = known_after (place_in route) k l u f (besi
 known_marked : (at : Option Prefix) (k l : Labels) (u : Option Labels) → KnownAt at k u → l.family ≡ k.family → IsKnown l u → KnownAt at l u
 known_marked None k l u x f y = y
 known_marked (Some p) k l None x f y = tt
-known_marked (Some p) k l (Some n) x f y = (y.0, subst (λ (g : Family). is_wide (entry_at p.bits (of_family g n.entries)) ≡ true) (sym f) x.1, y.1)
+known_marked (Some p) k l (Some n) x f y = (y.0, subst (λ (g : Family). is_wide_mark (entry_at p.bits (of_family g n.entries)) ≡ true) (sym f) x.1, y.1)
 
 pub known_set : (route : Route) (k l : Labels) (u : Option Labels) → InPlace k.routes → KnownAt (place_in route) k u → l.family ≡ k.family → l.routes ≡ with_planned route k.routes → l.entries ≡ k.entries → KnownAt (place_in route) l u
 known_set route k l u r x f s e = known_marked (place_in route) k l u x f (known_planned route k l u r x f s e)
@@ -225,12 +225,12 @@ known_eased (Some p) k l None (Some n) a x f s b y = absurd a
 known_eased (Some p) k l (Some m) (Some n) a x f s b y =
     let g = k.family in
     let R = of_family g k.routes in
-    let e : IsMended p.bits (of_family g m.entries) (of_family g n.entries) = subst (λ (z : Family). IsMended p.bits (of_family z m.entries) (of_family z n.entries)) x.0 a.1 in
+    let e : GetsMark p.bits (of_family g m.entries) (of_family g n.entries) = subst (λ (z : Family). GetsMark p.bits (of_family z m.entries) (of_family z n.entries)) x.0 a.1 in
     let z : IsSettled g k.routes l.entries n.entries = settled_mended (width g) p.bits R (of_family g k.entries) (of_family g l.entries) (of_family g m.entries) (of_family g n.entries) 0 b e y x.1 in
     (a.0 ∙ (x.0 ∙ sym f), subst (λ (z : Family). IsSettled z l.routes l.entries n.entries) (sym f) (subst (λ (S : Entries). IsSettled g S l.entries n.entries) (sym s) z))
 
--- in the whole space everything is settled then
-known_whole : (at : Option Prefix) (k l : Labels) (u : Option Labels) → IsWhole at → IsOfFamily k.family u → l.family ≡ k.family → l.routes ≡ k.routes → StaysAt at k.family k.routes l.entries → IsKnown l u
+-- in the whole space everything is clean then
+known_whole : (at : Option Prefix) (k l : Labels) (u : Option Labels) → IsWholeSpace at → IsOfFamily k.family u → l.family ≡ k.family → l.routes ≡ k.routes → StaysAt at k.family k.routes l.entries → IsKnown l u
 known_whole None k l u w n f s y = absurd w
 known_whole (Some p) k l None w n f s y = tt
 known_whole (Some p) k l (Some m) w n f s y =
@@ -278,7 +278,7 @@ patch_stays (Some p) f R T x t =
         let same : SameEntries (cut P (of_family g N)) (agg d F L h) = λ q.
         let a : Prefix = record { family = g; bits = P ++ q } in
         ap root (sym (cut_cut P q (of_family g N))) ∙ (family_hop g (P ++ q) N ∙ (hop_patched R T p a x t
-        ∙ (ap (λ b. cond b (hop_at a (region_aggregate R p T)) (hop_at a T)) (same_family_true g (begins P (P ++ q)) ∙ begins_on P q) ∙ (table_hop g (P ++ q) (lift P (agg d F L h)) ∙ entry_lift P q (agg d F L h)))))
+        ∙ (ap (λ b. cond b (entry_hop_at a (region_aggregate R p T)) (entry_hop_at a T)) (same_family_true g (begins P (P ++ q)) ∙ begins_on P q) ∙ (table_hop g (P ++ q) (lift P (agg d F L h)) ∙ entry_lift P q (agg d F L h)))))
         in
         subst (λ (k : ℕ). Stays d F (cut P (of_family g N)) k) (same_above P (of_family g T) (of_family g N) 0 (beside_patch R T p g x t)) (stays_same d F (cut P (of_family g N)) L h same)
 
@@ -296,7 +296,7 @@ known_before p h k l (Some m) r x f s e = (
     else : (q : List Bool) → (q ≡ (prefix_as p).bits → ⊥) → entry_at q (of_family l.family k.routes) ≡ entry_at q (of_family l.family l.routes)
     else q i =
         let a : Prefix = record { family = l.family; bits = q } in
-        family_hop l.family q k.routes ∙ (sym (routed_elsewhere (prefix_as p) a h k.routes (is_prefix p) r (apart a i)) ∙ (ap (hop_at a) (sym s) ∙ sym (family_hop l.family q l.routes)))
+        family_hop l.family q k.routes ∙ (sym (routed_elsewhere (prefix_as p) a h k.routes (is_prefix p) r (apart a i)) ∙ (ap (entry_hop_at a) (sym s) ∙ sym (family_hop l.family q l.routes)))
       where
         apart : (a : Prefix) → (a.bits ≡ (prefix_as p).bits → ⊥) → same_prefix a (prefix_as p) ≡ false
         apart a i = by_test (same_prefix a (prefix_as p)) refl
@@ -310,7 +310,7 @@ known_to_mend true route k l u r x f s e = tt
 known_to_mend false None k l u r x f s e = tt
 known_to_mend false (Some (p, h)) k l u r x f s e = known_before p h.0 k l u r x f s e
 
--- the marks are of the family
+-- the dirty prefixes are of the family
 pub known_family : (at : Option Prefix) (k : Labels) (u : Option Labels) (f : Family) → f ≡ k.family → KnownAt at k u → IsOfFamily f u
 known_family None k None f e x = tt
 known_family None k (Some n) f e x = e ∙ sym x.0
@@ -337,14 +337,14 @@ pub more_at : (at : Option Prefix) (t u : Option Labels) → IsTouchedAt at t u 
 more_at None t u x = subst (λ (v : Option Labels). AreMore t v) (sym x) (more_itself t)
 more_at (Some p) t u x = more_touched p t u x
 
-wide_still : (a b : Option ℕ) → (is_wide b ≡ false → is_wide a ≡ false) → is_wide a ≡ true → is_wide b ≡ true
-wide_still a b f w = by_test (is_wide b) refl
+wide_still : (a b : Option ℕ) → (is_wide_mark b ≡ false → is_wide_mark a ≡ false) → is_wide_mark a ≡ true → is_wide_mark b ≡ true
+wide_still a b f w = by_test (is_wide_mark b) refl
   where
-    by_test : (i : Bool) → is_wide b ≡ i → i ≡ true
+    by_test : (i : Bool) → is_wide_mark b ≡ i → i ≡ true
     by_test true e = refl
     by_test false e = let z : true ≡ false = sym w ∙ f e in absurd cc
 
--- two marks, one after the other
+-- two dirty prefixes, one after the other
 pub touched_both : (p : Prefix) (at : Option Prefix) (t u v : Option Labels) → IsTouched p t u → IsTouchedAt at u v → IsTouched p t v
 touched_both p at t u v x y = over t u v (more_at at u v y) x
   where

@@ -5,3 +5,7 @@ pub mod Planned
 pub mod Alike
 pub mod Near
 pub mod Settled
+pub mod Seeking
+pub mod Passing
+pub mod Apart
+pub mod Within

@@ -10,14 +10,14 @@ use Rattle.table_model.specs.Entries.{Entries, with_entry}
 use Rattle.table_model.specs.Changes.{Change, Add, Replace, Remove, after_change, after_changes}
 use Rattle.route_model.proofs.Keyed.{same_entries, all_put, sorted_put, lookup-put, all_cut, sorted_cut, lookup-cut}
 use Rattle.route_model.proofs.Places.{prefix_key}
-use Rattle.kept_model.specs.Between.{hop_at}
+use Rattle.kept_model.specs.Between.{entry_hop_at}
 use Rattle.kept_model.proofs.Held.{Placed}
 use Rattle.kept_model.specs.Patched.{with_route}
 use Rattle.fib_delta.specs.declared.change.Change as code
 use Rattle.fib_delta.specs.Views.{change_as}
 use Rattle.orig_tree.specs.Views.{Labels}
 use Rattle.orig_tree.specs.Walk.{has_node}
-use Rattle.smalta_keep.specs.Rooms.{HasRoom, HaveRoom, KeepsRoutes}
+use Rattle.smalta_keep.specs.Rooms.{HasNode, HaveRoom, KeepsRoutes}
 use Rattle.smalta_keep.specs.Routes.{put_back_in}
 
 -- ---- changes of a list, one after another
@@ -38,7 +38,7 @@ all_more P [] c a x = (x, tt)
 all_more P (d ∷ cs) c a x = (a.0, all_more P cs c a.1 x)
 
 -- room is kept where nodes are
-pub kept_one : (m n : List (List Bool)) (c : Change) → ((p : List Bool) → has_node p m ≡ true → has_node p n ≡ true) → HasRoom m c → HasRoom n c
+pub kept_one : (m n : List (List Bool)) (c : Change) → ((p : List Bool) → has_node p m ≡ true → has_node p n ≡ true) → HasNode m c → HasNode n c
 kept_one m n (Add p h) k r = k p.bits r
 kept_one m n (Replace p h) k r = k p.bits r
 kept_one m n (Remove p) k r = tt
@@ -54,13 +54,13 @@ pub keeps_itself : (a : Labels) → KeepsRoutes a a
 keeps_itself a = record { family = refl; routes = refl; nodes = λ p h. h }
 
 -- room for one more
-pub room_more : (m n : List (List Bool)) (xs : List code.Change) (i : ℕ) (x : code.Change) → i < length xs → x ≡ get_or xs i x → ((p : List Bool) → has_node p m ≡ true → has_node p n ≡ true) → HaveRoom m (map change_as (take i xs)) → HasRoom n (change_as x)
+pub room_more : (m n : List (List Bool)) (xs : List code.Change) (i : ℕ) (x : code.Change) → i < length xs → x ≡ get_or xs i x → ((p : List Bool) → has_node p m ≡ true → has_node p n ≡ true) → HaveRoom m (map change_as (take i xs)) → HasNode n (change_as x)
     → HaveRoom n (map change_as (take (i + 1) xs))
 room_more m n xs i x l e k r h =
     let step : map change_as (take (i + 1) xs) ≡ map change_as (take i xs) ++ (change_as x ∷ []) =
     ap (map change_as) (take_more xs i x l ∙ ap (λ z. take i xs ++ (z ∷ [])) (sym e)) ∙ map-append change_as (take i xs) (x ∷ [])
     in
-    subst (λ (cs : List Change). HaveRoom n cs) (sym step) (all_more (HasRoom n) (map change_as (take i xs)) (change_as x) (kept_room m n (map change_as (take i xs)) k r) h)
+    subst (λ (cs : List Change). HaveRoom n cs) (sym step) (all_more (HasNode n) (map change_as (take i xs)) (change_as x) (kept_room m n (map change_as (take i xs)) k r) h)
 
 -- the first change of those that fit fits
 pub first_fits : (c : Change) (cs : List Change) (T : Entries) → IsSome (after_changes (c ∷ cs) T) → IsSome (after_change c T)
@@ -79,27 +79,27 @@ routed_placed : (p : Prefix) (h : ℕ) (R : Entries) → IsPrefix p → Placed R
 routed_placed p zero R x r = (all_cut (same_prefix p) IsPrefix R r.0, sorted_cut prefix_cmp (same_prefix p) R r.1)
 routed_placed p (suc h) R x r = (all_put prefix_cmp IsPrefix R p (suc h) r.0 x, sorted_put prefix_key R p (suc h) r.1)
 
-pub routed_elsewhere : (p q : Prefix) (h : ℕ) (R : Entries) → IsPrefix p → Placed R → same_prefix q p ≡ false → hop_at q (with_route p h R) ≡ hop_at q R
-routed_elsewhere p q zero R x r n = lookup-cut prefix_key q p R r.1 ∙ ap (λ b. cond b None (hop_at q R)) n
-routed_elsewhere p q (suc h) R x r n = lookup-put prefix_key q R p (suc h) r.0 x ∙ ap (λ b. cond b (Some (suc h)) (hop_at q R)) n
+pub routed_elsewhere : (p q : Prefix) (h : ℕ) (R : Entries) → IsPrefix p → Placed R → same_prefix q p ≡ false → entry_hop_at q (with_route p h R) ≡ entry_hop_at q R
+routed_elsewhere p q zero R x r n = lookup-cut prefix_key q p R r.1 ∙ ap (λ b. cond b None (entry_hop_at q R)) n
+routed_elsewhere p q (suc h) R x r n = lookup-put prefix_key q R p (suc h) r.0 x ∙ ap (λ b. cond b (Some (suc h)) (entry_hop_at q R)) n
 
 put_back_placed : (p : Prefix) (o : Option ℕ) (R : Entries) → IsPrefix p → Placed R → Placed (put_back_in p o R)
 put_back_placed p None R x r = (all_cut (same_prefix p) IsPrefix R r.0, sorted_cut prefix_cmp (same_prefix p) R r.1)
 put_back_placed p (Some h) R x r = (all_put prefix_cmp IsPrefix R p h r.0 x, sorted_put prefix_key R p h r.1)
 
-pub put_back_hop : (p q : Prefix) (o : Option ℕ) (R : Entries) → IsPrefix p → Placed R → hop_at q (put_back_in p o R) ≡ cond (same_prefix q p) o (hop_at q R)
+pub put_back_hop : (p q : Prefix) (o : Option ℕ) (R : Entries) → IsPrefix p → Placed R → entry_hop_at q (put_back_in p o R) ≡ cond (same_prefix q p) o (entry_hop_at q R)
 put_back_hop p q None R x r = lookup-cut prefix_key q p R r.1
 put_back_hop p q (Some h) R x r = lookup-put prefix_key q R p h r.0 x
 
 -- the route that was, put back, gives the routes that were
-pub back_again : (p : Prefix) (h : ℕ) (R S : Entries) (o : Option ℕ) → IsPrefix p → Placed R → o ≡ hop_at p R → S ≡ with_route p h R → put_back_in p o S ≡ R
+pub back_again : (p : Prefix) (h : ℕ) (R S : Entries) (o : Option ℕ) → IsPrefix p → Placed R → o ≡ entry_hop_at p R → S ≡ with_route p h R → put_back_in p o S ≡ R
 back_again p h R S o x r e s =
     let t = routed_placed p h R x r in
     let u = put_back_placed p o (with_route p h R) x t in
     ap (put_back_in p o) s ∙ same_entries prefix_key (put_back_in p o (with_route p h R)) R u.1 r.1 u.0 r.0 (λ q. put_back_hop p q o (with_route p h R) x t ∙ by_test q (same_prefix q p) refl)
   where
-    by_test : (q : Prefix) (b : Bool) → same_prefix q p ≡ b → cond b o (hop_at q (with_route p h R)) ≡ hop_at q R
-    by_test q true b = e ∙ ap (λ z. hop_at z R) (sym (prefix_key.same q p b))
+    by_test : (q : Prefix) (b : Bool) → same_prefix q p ≡ b → cond b o (entry_hop_at q (with_route p h R)) ≡ entry_hop_at q R
+    by_test q true b = e ∙ ap (λ z. entry_hop_at z R) (sym (prefix_key.same q p b))
     by_test q false b = routed_elsewhere p q h R x r b
 
 pub routed_set : (p : Prefix) (h : ℕ) (R : Entries) → nat_eq h 0 ≡ false → with_route p h R ≡ with_entry R (p, h)

@@ -21,7 +21,7 @@ use Rattle.table_model.proofs.Both.{sorted_table}
 use Rattle.table_model.proofs.Order.{order_join}
 use Rattle.table_model.proofs.Patch.{begins_trans}
 use Rattle.route_model.proofs.Places.{prefix_key}
-use Rattle.kept_model.specs.Between.{place_of, hop_at, change_at, between}
+use Rattle.kept_model.specs.Between.{place_of, entry_hop_at, change_at, between}
 use Rattle.kept_model.proofs.Alike.{placed_are, same_changes, all_between}
 use Rattle.kept_model.proofs.Places.{at, each_at, in_places}
 use Rattle.kept_model.proofs.Patches.{family_hop}
@@ -30,7 +30,7 @@ use Rattle.kept_model.proofs.Families.{table_of}
 use Rattle.moves_model.specs.Sets.{inner_set, new_entry, near_of}
 use Rattle.moves_model.specs.Nearest.{nearest}
 use Rattle.moves_model.proofs.Near.{near_table}
-use Rattle.moves_cert.specs.Rows.{near_in}
+use Rattle.moves_model.specs.Rows.{near_in}
 use Rattle.fib_delta.specs.declared.change.Change as code
 use Rattle.fib_delta.specs.Views.{change_as}
 use Rattle.orig_tree.specs.Views.{InPlace, Labels}
@@ -65,12 +65,12 @@ near_family f R T = table_of f (nearest (width f) (of_family f R) (of_family f T
 
 same_place : (T : Entries) (c : Change) → place_of (taken_back T c) ≡ place_of c
 same_place T (Add p h) = refl
-same_place T (Replace p h) = by_hop (hop_at p T)
+same_place T (Replace p h) = by_hop (entry_hop_at p T)
   where
     by_hop : (o : Option ℕ) → place_of (replaced_again p o) ≡ p
     by_hop None = refl
     by_hop (Some g) = refl
-same_place T (Remove p) = by_hop (hop_at p T)
+same_place T (Remove p) = by_hop (entry_hop_at p T)
   where
     by_hop : (o : Option ℕ) → place_of (added_again p o) ≡ p
     by_hop None = refl
@@ -99,7 +99,7 @@ same_number g h = by_tests (nat_eq g h) (nat_eq h g) refl refl
     by_tests true false s t = sym (eq-eqb h g (sym (eqb-true g h s))) ∙ t
     by_tests false true s t = sym s ∙ eq-eqb g h (sym (eqb-true h g t))
 
-one_back : (T : Entries) (p : Prefix) (a b : Option ℕ) → hop_at p T ≡ a → map (taken_back T) (change_at p a b) ≡ change_at p b a
+one_back : (T : Entries) (p : Prefix) (a b : Option ℕ) → entry_hop_at p T ≡ a → map (taken_back T) (change_at p a b) ≡ change_at p b a
 one_back T p None None e = refl
 one_back T p None (Some h) e = refl
 one_back T p (Some g) None e = ap (λ o. added_again p o ∷ []) e
@@ -117,7 +117,7 @@ all_back T N t n =
     let s = same_places T cs in
     same_changes (map (taken_back T) cs) (between N T) (subst (λ (ps : List Prefix). IsStrictlySortedBy prefix_cmp ps) (sym s) (in_places T N)) (in_places N T)
     (subst (λ (ps : List Prefix). AllByRecursion IsPrefix ps) (sym s) (all_between IsPrefix T N t.0 n.0)) (all_between IsPrefix N T n.0 t.0)
-    (λ p. back_at T p cs ∙ (ap (map (taken_back T)) (each_at T N p a b) ∙ (one_back T p (hop_at p T) (hop_at p N) refl ∙ sym (each_at N T p b a))))
+    (λ p. back_at T p cs ∙ (ap (map (taken_back T)) (each_at T N p a b) ∙ (one_back T p (entry_hop_at p T) (entry_hop_at p N) refl ∙ sym (each_at N T p b a))))
 
 -- ---- how far changes reach
 
@@ -143,7 +143,7 @@ nothing p (Some g) (Some h) e = by_test (nat_eq g h) refl e
 pub beside_changes : (p : Prefix) (f : Family) (T N : Entries) → InPlace T → InPlace N → AreWithin p (between T N) → SameBeside (Some p) f T N
 beside_changes p f T N t n w q x =
     let a : Prefix = record { family = f; bits = q } in
-    family_hop f q T ∙ (nothing a (hop_at a T) (hop_at a N) (sym (each_at T N a (placed_are T t) (placed_are N n)) ∙ missing p a (between T N) w (not_within p f q x)) ∙ sym (family_hop f q N))
+    family_hop f q T ∙ (nothing a (entry_hop_at a T) (entry_hop_at a N) (sym (each_at T N a (placed_are T t) (placed_are N n)) ∙ missing p a (between T N) w (not_within p f q x)) ∙ sym (family_hop f q N))
 
 within_through : (p q r : Prefix) → is_within p q ≡ true → is_within q r ≡ true → is_within p r ≡ true
 within_through p q r a b =
@@ -181,8 +181,8 @@ back_more T ys xs i x y l e a h =
     map-append change_as ys (y ∷ []) ∙ (ap (λ cs. cs ++ (change_as y ∷ [])) a
     ∙ (ap (λ z. map (taken_back T) (map change_as (take i xs)) ++ (z ∷ [])) h ∙ (sym (map-append (taken_back T) (map change_as (take i xs)) (change_as x ∷ [])) ∙ ap (map (taken_back T)) (sym step))))
 
-pub entry_hop : (T : Entries) (p : Prefix) (f : Family) (L : Table) (o : Option ℕ) → p.family ≡ f → o ≡ root L → L ≡ cut p.bits (of_family f T) → o ≡ hop_at p T
-entry_hop T p f L o e r c = r ∙ (ap root c ∙ (family_hop f p.bits T ∙ ap (λ (g : Family). hop_at (record { family = g; bits = p.bits }) T) (sym e)))
+pub entry_hop : (T : Entries) (p : Prefix) (f : Family) (L : Table) (o : Option ℕ) → p.family ≡ f → o ≡ root L → L ≡ cut p.bits (of_family f T) → o ≡ entry_hop_at p T
+entry_hop T p f L o e r c = r ∙ (ap root c ∙ (family_hop f p.bits T ∙ ap (λ (g : Family). entry_hop_at (record { family = g; bits = p.bits }) T) (sym e)))
 
 -- the changes there and back are of the tree's family
 pub near_of_family : (k : Labels) (E : Table) → of_table k.family E ≡ k.entries → AreOf k.family (between k.entries (near_in k.family k.routes k.entries)) × AreOf k.family (between (near_in k.family k.routes k.entries) k.entries)

@@ -18,14 +18,14 @@ use Rattle.kept_model.specs.Patched.{with_route, after_repair, after_snapshot}
 use Rattle.table_model.specs.Width.{width}
 use Rattle.table_model.specs.Table.{Alike}
 use Rattle.table_model.specs.Both.{aggregate_in}
-use Rattle.event_moves.specs.Event.{AlikeBefore}
-use Rattle.event_moves.proofs.Routed.{routed_before}
+use Rattle.fib_moves.specs.Event.{AlikeBefore}
+use Rattle.fib_moves.proofs.Routed.{routed_before}
 use Rattle.fib_delta.proofs.Held.{is_prefix}
 use Rattle.smalta_keep.specs.Answers.{IsAlikeFor}
-use Rattle.moves_cert.specs.Rows.{near_in}
+use Rattle.moves_model.specs.Rows.{near_in}
 use Rattle.table_model.specs.declared.family.Family.{Family}
 use Rattle.smalta_keep.specs.Routes.{HasFormer, former_in, former_place, undone_in}
-use Rattle.smalta_keep.specs.Plans.{IsMend, IsMoved, IsSet, IsStill, IsPlanned, Tells, IsBeforeAt, some_or, mended, repaired_table, planned_table}
+use Rattle.smalta_keep.specs.Plans.{IsMend, IsMoved, IsRouteSet, RoutesStay, IsRepairPlanned, Tells, IsBeforeAt, some_or, mended, repaired_table, planned_table}
 use Rattle.smalta_keep.specs.Views.{moved_of, repair_as, snapshot_as, with_planned, place_in}
 use Rattle.orig_tree.specs.Walk.{has_node}
 use Rattle.smalta_keep.specs.Rooms.{IsNodeAt, KeepsEntries}
@@ -55,7 +55,7 @@ is_on false e = sym e
 
 -- ---- a plan's route that is set
 
-held_still : (f : Option Former) (a b : Labels) → b.family ≡ a.family → IsStill a b → HasFormer a f → HasFormer b f
+held_still : (f : Option Former) (a b : Labels) → b.family ≡ a.family → RoutesStay a b → HasFormer a f → HasFormer b f
 held_still None a b g s h = tt
 held_still (Some f) a b g s h = (h.0 ∙ sym g, s.before ∙ (h.1 ∙ ap (former_in f) (sym s.routes)))
 
@@ -63,7 +63,7 @@ node_kept : (at : Option Prefix) (m n : List (List Bool)) → ((p : List Bool) �
 node_kept None m n k i = tt
 node_kept (Some p) m n k i = k p.bits i
 
-pub set_still : (route : Route) (R : Entries) (a b : Labels) (f : Option Former) → KeepsEntries a b → IsStill a b → IsSet route R a f → IsSet route R b f
+pub set_still : (route : Route) (R : Entries) (a b : Labels) (f : Option Former) → KeepsEntries a b → RoutesStay a b → IsRouteSet route R a f → IsRouteSet route R b f
 set_still route R a b f k s i = record {
   routes = s.routes ∙ i.routes;
   undone = ap (undone_in f) s.routes ∙ i.undone;
@@ -72,10 +72,10 @@ set_still route R a b f k s i = record {
   node = node_kept (place_in route) a.nodes b.nodes k.nodes i.node;
 }
 
-pub set_over : (route : Route) (R S : Entries) (a : Labels) (f : Option Former) → R ≡ S → IsSet route R a f → IsSet route S a f
-set_over route R S a f e i = subst (λ (z : Entries). IsSet route z a f) e i
+pub set_over : (route : Route) (R S : Entries) (a : Labels) (f : Option Former) → R ≡ S → IsRouteSet route R a f → IsRouteSet route S a f
+set_over route R S a f e i = subst (λ (z : Entries). IsRouteSet route z a f) e i
 
-pub set_room : (route : Route) (R : Entries) (a b : Labels) (f g : Option Former) → IsSet route R a f → IsSet route (undone_in f a.routes) b g → IsSet route R b g
+pub set_room : (route : Route) (R : Entries) (a b : Labels) (f g : Option Former) → IsRouteSet route R a f → IsRouteSet route (undone_in f a.routes) b g → IsRouteSet route R b g
 set_room route R a b f g i j = set_over route (undone_in f a.routes) R b g i.undone j
 
 -- ---- changes, one run after another
@@ -127,7 +127,7 @@ pub renewed_there : (f g : Family) (R S N M : Entries) (cs : List Change) → f 
 renewed_there f g R S N M cs e r n i = i ∙ (ap (λ z. between z (aggregate_in f R z)) n ∙ (ap (λ z. between M (aggregate_in f z M)) r ∙ ap (λ z. between M (aggregate_in z S M)) e))
 
 -- the table before the plan's route was set
-pub before_set : (fewest : Bool) (route : Route) (a b : Labels) (f : Option Former) → ForSome route (λ r. r.0.family ≡ a.family) → InPlace a.routes → IsAlikeFor fewest route a → b.family ≡ a.family → b.entries ≡ a.entries → IsSet route a.routes b f
+pub before_set : (fewest : Bool) (route : Route) (a b : Labels) (f : Option Former) → ForSome route (λ r. r.0.family ≡ a.family) → InPlace a.routes → IsAlikeFor fewest route a → b.family ≡ a.family → b.entries ≡ a.entries → IsRouteSet route a.routes b f
     → IsBeforeAt fewest (former_place f) b
 before_set fewest route a b f x r l e t s = subst (λ (at : Option Prefix). IsBeforeAt fewest at b) (sym s.place) (here fewest route x l s.routes)
   where
@@ -151,7 +151,7 @@ made_by kept fewest at due r i =
 pub tells : (kept : Labels) (fewest : Bool) (at : Option Prefix) (due : Bool) (r : Repair) → IsMoved kept fewest at due r → Tells kept fewest at due (moved_of r)
 tells kept fewest at due r i = record { repair = i.repair; snapshot = i.snapshot; makes = made_by kept fewest at due r i }
 
-pub planned : (kept : Labels) (fewest : Bool) (at : Option Prefix) (due : Bool) (r : Repair) → IsMoved kept fewest at due r → HasFormer kept r.former → IsPlanned kept r
+pub planned : (kept : Labels) (fewest : Bool) (at : Option Prefix) (due : Bool) (r : Repair) → IsMoved kept fewest at due r → HasFormer kept r.former → IsRepairPlanned kept r
 planned kept fewest at due r i h = record {
   repair_of = i.repair_of;
   snapshot_of = i.snapshot_of;

@@ -7,16 +7,16 @@ use Rattle.table_model.specs.Table.{cut}
 use Rattle.table_model.specs.Entries.{Entries, of_family}
 use Rattle.table_model.specs.Regions.{above, entry_at, SameOutside}
 use Rattle.table_model.specs.Sets.{answers}
-use Rattle.kept_model.specs.Stays.{Stays, is_wide, HasMarks, IsMarked, IsMended}
+use Rattle.kept_model.specs.Stays.{Stays, is_wide_mark, HasMarks, IsMarked, GetsMark}
 use Rattle.orig_tree.specs.Views.{Labels}
-use Rattle.kept_pass.specs.Known.{IsSettled, IsKnown, IsKnownBefore}
+use Rattle.smalta_keep.specs.KnownBelow.{IsSettled, IsKnown, IsKnownBefore}
 
--- the marks, if there are any, are of the family
+-- the dirty prefixes, if there are any, are of the family
 abbrev pub IsOfFamily : Family → Option Labels → Type 0
 IsOfFamily f None = Unit {0}
 IsOfFamily f (Some m) = f ≡ m.family
 
--- the prefix is marked wide, and what was marked still is; without marks everything counts as marked wide
+-- the prefix is marked wide, and what was marked still is; without dirty prefixes everything counts as marked wide
 abbrev pub IsTouched : Prefix → Option Labels → Option Labels → Type 0
 IsTouched p old None = Unit {0}
 IsTouched p None (Some n) = ⊥
@@ -27,11 +27,11 @@ abbrev pub IsTouchedAt : Option Prefix → Option Labels → Option Labels → T
 IsTouchedAt None old new = new ≡ old
 IsTouchedAt (Some p) old new = IsTouched p old new
 
--- the prefix is marked, maybe wide no more, and the other marks are as they were
+-- the prefix is marked, maybe wide no more, and the other dirty prefixes are as they were
 abbrev pub IsEased : Prefix → Option Labels → Option Labels → Type 0
 IsEased p old None = Unit {0}
 IsEased p None (Some n) = ⊥
-IsEased p (Some m) (Some n) = (n.family ≡ m.family) × IsMended p.bits (of_family m.family m.entries) (of_family m.family n.entries)
+IsEased p (Some m) (Some n) = (n.family ≡ m.family) × GetsMark p.bits (of_family m.family m.entries) (of_family m.family n.entries)
 
 -- the same of a prefix, if there is one
 abbrev pub IsEasedAt : Option Prefix → Option Labels → Option Labels → Type 0
@@ -50,24 +50,24 @@ AreWide None old new = AreMore old new
 AreWide (Some p) old new = IsTouched p old new
 
 -- there is a prefix, and it is the whole space
-abbrev pub IsWhole : Option Prefix → Type 0
-IsWhole None = ⊥
-IsWhole (Some p) = p.bits ≡ []
+abbrev pub IsWholeSpace : Option Prefix → Type 0
+IsWholeSpace None = ⊥
+IsWholeSpace (Some p) = p.bits ≡ []
 
--- after a snapshot the marks, if there are any, are of the family; else the plan's prefix, if it has one, is marked as well, and wide
+-- after a snapshot the dirty prefixes, if there are any, are of the family; else the plan's prefix, if it has one, is marked as well, and wide
 -- where the repair was one of the fewest changes; after any other repair of the whole space it is as after a snapshot
 abbrev pub AreLeft : Bool → Bool → Family → Option Prefix → Option Labels → Option Labels → Type 0
 AreLeft true fewest f at old new = IsOfFamily f new
 AreLeft false true f at old new = IsTouchedAt at old new
-AreLeft false false f at old new = IsEasedAt at old new ⊎ (IsWhole at × IsOfFamily f new)
+AreLeft false false f at old new = IsEasedAt at old new ⊎ (IsWholeSpace at × IsOfFamily f new)
 
--- p is marked wide, and what is off the marks is settled; without p, the latter
+-- p is marked wide, and what is off the dirty prefixes is clean; without p, the latter
 abbrev pub KnownAt : Option Prefix → Labels → Option Labels → Type 0
 KnownAt None kept touched = IsKnown kept touched
 KnownAt (Some p) kept None = Unit {0}
-KnownAt (Some p) kept (Some n) = (n.family ≡ kept.family) × (is_wide (entry_at p.bits (of_family kept.family n.entries)) ≡ true) × IsSettled kept.family kept.routes kept.entries n.entries
+KnownAt (Some p) kept (Some n) = (n.family ≡ kept.family) × (is_wide_mark (entry_at p.bits (of_family kept.family n.entries)) ≡ true) × IsSettled kept.family kept.routes kept.entries n.entries
 
--- where the repair at this prefix, if there is one, isn't to have the fewest changes, what is off the marks is settled for routes that
+-- where the repair at this prefix, if there is one, isn't to have the fewest changes, what is off the dirty prefixes is clean for routes that
 -- differ at the prefix alone
 abbrev pub IsKnownToMend : Bool → Option Prefix → Labels → Option Labels → Type 0
 IsKnownToMend true at kept touched = Unit {0}

@@ -6,3 +6,6 @@ pub mod Reach
 pub mod Known
 pub mod Plans
 pub mod Answers
+pub mod KnownBelow
+pub mod Places
+pub mod Passes

@@ -8,8 +8,8 @@ use Rattle.table_model.specs.Entries.{Entries, of_family}
 use Rattle.table_model.specs.Changes.{after_changes}
 use Rattle.kept_model.specs.Between.{between}
 use Rattle.kept_model.specs.Patched.{after_repair, after_snapshot}
-use Rattle.moves_cert.specs.Rows.{near_in}
-use Rattle.event_moves.specs.Event.{AlikeBefore}
+use Rattle.moves_model.specs.Rows.{near_in}
+use Rattle.fib_moves.specs.Event.{AlikeBefore}
 use Rattle.fib_addr.specs.Views.{prefix_as}
 use Rattle.fib_addr.specs.declared.prefix.Prefix as code_prefix
 use Rattle.fib_addr.specs.declared.entry.Hop as code_hop
@@ -45,7 +45,7 @@ pub record Tells (kept : Labels) (fewest : Bool) (at : Option Prefix) (due : Boo
 -- Planned, and nothing changed since: there is room for the changes, which make the table of the repair and of the snapshot, if it is
 -- due; the repair's are within its reach, where, unless they are to be the fewest, a pass then leaves what there is; and the former
 -- route can be put back.
-pub record IsPlanned (kept : Labels) (r : Repair) : Type 0 where
+pub record IsRepairPlanned (kept : Labels) (r : Repair) : Type 0 where
   pub repair_of : AreOf kept.family (repair_as r.moved)
   pub snapshot_of : AreOf kept.family (snapshot_as r.moved)
   pub reach_of : ForSome r.reach (λ p. p.family ≡ kept.family)
@@ -60,7 +60,7 @@ pub record IsPlanned (kept : Labels) (r : Repair) : Type 0 where
 -- ---- while a plan is made
 
 -- the plan's route, if it has one, is set over the routes R at a node, and the former one puts these back
-pub record IsSet (route : Option (code_prefix.Prefix × code_hop.Hop)) (R : Entries) (kept : Labels) (f : Option Former) : Type 0 where
+pub record IsRouteSet (route : Option (code_prefix.Prefix × code_hop.Hop)) (R : Entries) (kept : Labels) (f : Option Former) : Type 0 where
   pub routes : kept.routes ≡ with_planned route R
   pub undone : undone_in f kept.routes ≡ R
   pub held : HasFormer kept f
@@ -68,7 +68,7 @@ pub record IsSet (route : Option (code_prefix.Prefix × code_hop.Hop)) (R : Entr
   pub node : IsNodeAt (place_in route) kept.nodes
 
 -- the routes stay, and those that can be put back
-pub record IsStill (old new : Labels) : Type 0 where
+pub record RoutesStay (old new : Labels) : Type 0 where
   pub routes : new.routes ≡ old.routes
   pub before : new.before ≡ old.before
 

@@ -9,13 +9,13 @@ use Rattle.orig_tree.specs.Walk.{has_node}
 use Rattle.orig_tree.specs.Views.{Labels}
 
 -- there is a node for the entry that a change sets
-abbrev pub HasRoom : List (List Bool) → Change → Type 0
-HasRoom nodes (Add p h) = has_node p.bits nodes ≡ true
-HasRoom nodes (Replace p h) = has_node p.bits nodes ≡ true
-HasRoom nodes (Remove p) = Unit {0}
+abbrev pub HasNode : List (List Bool) → Change → Type 0
+HasNode nodes (Add p h) = has_node p.bits nodes ≡ true
+HasNode nodes (Replace p h) = has_node p.bits nodes ≡ true
+HasNode nodes (Remove p) = Unit {0}
 
 abbrev pub HaveRoom : List (List Bool) → List Change → Type 0
-HaveRoom nodes cs = AllByRecursion (HasRoom nodes) cs
+HaveRoom nodes cs = AllByRecursion (HasNode nodes) cs
 
 -- there is a node at this prefix, if there is one
 abbrev pub IsNodeAt : Option Prefix → List (List Bool) → Type 0
@@ -43,7 +43,7 @@ pub record KeepsEntries (old new : Labels) : Type 0 where
   pub nodes : KeepsNodes old new
 
 -- routes and entries stay, whatever nodes there are
-pub record KeepsTables (old new : Labels) : Type 0 where
+pub record ChangesNodes (old new : Labels) : Type 0 where
   pub family : new.family ≡ old.family
   pub routes : new.routes ≡ old.routes
   pub entries : new.entries ≡ old.entries

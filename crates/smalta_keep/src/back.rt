@@ -1,7 +1,7 @@
 //! Changes that take others back.
 
 ghost use Rattle.std.specs.Prelude.{◌≡◌, [], IfOk, cond, map};
-ghost use Rattle.kept_model.specs.Between.{hop_at, place_of};
+ghost use Rattle.kept_model.specs.Between.{entry_hop_at, place_of};
 ghost use Rattle.fib_addr.specs.Views.{prefix_as};
 ghost use Rattle.fib_delta.specs.Views.{change_as};
 ghost use Rattle.smalta_keep.specs.Back.{added_again, replaced_again, taken_back};
@@ -24,7 +24,7 @@ pub fn place_of(change: &Change) -> Prefix
 /// The hop of the tree's entry at a prefix, if there is one.
 fn entry_at(tree: &Tree, prefix: &Prefix) -> Option<u16>
     requires { prefix.now.family ≡ tree.now.family }
-    ensures { result ≡ hop_at (prefix_as prefix.now) tree.now.entries }
+    ensures { result ≡ entry_hop_at (prefix_as prefix.now) tree.now.entries }
 {
     let region = tree.region(prefix);
     region.entry()

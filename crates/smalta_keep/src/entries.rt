@@ -5,7 +5,7 @@ ghost use Rattle.table_model.specs.Changes.{after_change, after_changes};
 ghost use Rattle.kept_model.specs.Between.{place_of};
 ghost use Rattle.fib_addr.specs.Views.{prefix_as};
 ghost use Rattle.fib_delta.specs.Views.{change_as};
-ghost use Rattle.smalta_keep.specs.Rooms.{HasRoom, HaveRoom, IsNodeAt, AreOf, KeepsRoutes};
+ghost use Rattle.smalta_keep.specs.Rooms.{HasNode, HaveRoom, IsNodeAt, AreOf, KeepsRoutes};
 
 use fib_addr::Prefix;
 use fib_delta::Change;
@@ -15,7 +15,7 @@ use std::alloc::AllocError;
 /// Whether a change takes an entry away or is at this prefix: it makes no node where the prefix is one.
 fn is_at(change: &Change, at: Option<Prefix>) -> bool
     ensures { result ≡ true → (nodes : List (List Bool)) → IsNodeAt (option_map prefix_as at) nodes
-        → HasRoom nodes (change_as change.now) }
+        → HasNode nodes (change_as change.now) }
 {
     match change {
         Change::Add(prefix, _) | Change::Replace(prefix, _) => at == Some(*prefix),
@@ -41,7 +41,7 @@ fn make_room_for(tree: &mut Tree, change: &Change) -> Result<(), AllocError>
     requires { (place_of (change_as change.now)).family ≡ tree.old.family }
     ensures keeps { KeepsRoutes tree.old tree.new }
     ensures entries { tree.new.entries ≡ tree.old.entries }
-    ensures room { OnOk result (HasRoom tree.new.nodes (change_as change.now)) }
+    ensures room { OnOk result (HasNode tree.new.nodes (change_as change.now)) }
 {
     match change {
         Change::Add(prefix, _) | Change::Replace(prefix, _) => tree.room(prefix)?,
@@ -66,7 +66,7 @@ pub fn make_room(tree: &mut Tree, changes: &[Change]) -> Result<(), AllocError>
 /// Makes a change, for which there is room and which fits the entries.
 fn apply(tree: &mut Tree, change: &Change)
     requires family { (place_of (change_as change.now)).family ≡ tree.old.family }
-    requires room { HasRoom tree.old.nodes (change_as change.now) }
+    requires room { HasNode tree.old.nodes (change_as change.now) }
     requires fits { IsSome (after_change (change_as change.now) tree.old.entries) }
     ensures keeps { KeepsRoutes tree.old tree.new }
     ensures before { tree.new.before ≡ tree.old.before }

@@ -4,11 +4,11 @@ ghost use Rattle.std.specs.Prelude.{◌≡◌, map};
 ghost use Rattle.std.specs.Option.{ForSome};
 ghost use Rattle.kept_model.specs.Between.{place_of};
 ghost use Rattle.fib_delta.specs.Views.{change_as};
-ghost use Rattle.smalta_keep.specs.Rooms.{AreOf, KeepsTables};
+ghost use Rattle.smalta_keep.specs.Rooms.{AreOf, ChangesNodes};
 
+use crate::node_at;
 use fib_addr::Prefix;
 use fib_delta::Change;
-use kept_pass::node_at;
 use orig_tree::Tree;
 
 /// The prefix of an entry that a change takes away where it was made, or would have added where it wasn't.
@@ -24,7 +24,7 @@ fn place_left(change: &Change, made: bool) -> Option<Prefix>
 /// Drops the nodes at a prefix, if there is one, within it and on the way to it that nothing uses.
 pub fn trim_at(tree: &mut Tree, prefix: Option<Prefix>)
     requires { ForSome prefix (λ p. p.family ≡ tree.old.family) }
-    ensures { KeepsTables tree.old tree.new }
+    ensures { ChangesNodes tree.old tree.new }
 {
     if let Some(prefix) = prefix {
         tree.trim(&prefix);
@@ -44,7 +44,7 @@ fn is_last(tree: &Tree, prefix: &Prefix) -> bool
 /// Drops the node of a prefix, if there is one, and those on the way to it, as far as nothing uses them and nothing is below them.
 pub fn trim_last(tree: &mut Tree, prefix: Option<Prefix>)
     requires { ForSome prefix (λ p. p.family ≡ tree.old.family) }
-    ensures { KeepsTables tree.old tree.new }
+    ensures { ChangesNodes tree.old tree.new }
 {
     if let Some(prefix) = prefix
         && is_last(tree, &prefix)
@@ -56,7 +56,7 @@ pub fn trim_last(tree: &mut Tree, prefix: Option<Prefix>)
 /// Drops the nodes that nothing uses where changes took entries away, or where those that weren't made would have added them.
 pub fn trim_left(tree: &mut Tree, changes: &[Change], made: bool)
     requires { AreOf tree.old.family (map change_as changes.now) }
-    ensures { KeepsTables tree.old tree.new }
+    ensures { ChangesNodes tree.old tree.new }
 {
     for change in changes {
         trim_last(tree, place_left(change, made));

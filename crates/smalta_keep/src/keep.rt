@@ -16,12 +16,12 @@ ghost use Rattle.fib_delta.specs.Views.{change_as};
 ghost use Rattle.orig_tree.specs.Views.{InPlace};
 ghost use Rattle.ortc.specs.Proved.{ProveLeast};
 ghost use Rattle.smalta_keep.specs.Views.{moved_of, repair_as, snapshot_as, undone_by, with_planned, place_in};
-ghost use Rattle.smalta_keep.specs.Plans.{IsPlanned, Tells};
+ghost use Rattle.smalta_keep.specs.Plans.{IsRepairPlanned, Tells};
 ghost use Rattle.smalta_keep.specs.Answers.{IsAlike, IsAlikeFor, IsLeast, IsFewestWithin};
 
+use crate::dirty::DirtySet;
 use crate::entries::apply_all;
 use crate::idle::{trim_at, trim_last, trim_left};
-use crate::marks::Marks;
 use crate::plan::{Due, plan_moves};
 use crate::repair::{Moved, Repair};
 use crate::routes::{former_prefix, planned_prefix, put_back_planned, set};
@@ -29,7 +29,7 @@ use cert_model::RowSink;
 use fib_addr::{Entry, EntrySink, Family, Hop, Prefix};
 use fib_delta::Change;
 use orig_tree::Tree;
-use ortc::{Fresh, certify, fresh, hand_least, least_table};
+use ortc::{Fresh, certify, emit_least, fresh, least_table};
 use std::alloc::{AllocError, Global};
 use std::marker::Model;
 
@@ -39,18 +39,18 @@ use std::marker::Model;
 pub struct Keep {
     alloc: Global,
     tree: Tree,
-    marks: Marks,
+    dirty: DirtySet,
 }
 
 impl Model for Keep {
     ghost use Rattle.orig_tree.specs.Views.{Labels};
-    ghost use Rattle.kept_pass.specs.Known.{IsKnown};
+    ghost use Rattle.smalta_keep.specs.KnownBelow.{IsKnown};
 
     ghost Value = { Labels };
 
     ghost view = { λ k. k.tree };
 
-    ghost invariant = { λ k. IsKnown k.tree k.marks.tree };
+    ghost invariant = { λ k. IsKnown k.tree k.dirty.tree };
 }
 
 impl Keep {
@@ -67,7 +67,7 @@ impl Keep {
         Keep {
             alloc,
             tree: Tree::new(alloc, family),
-            marks: Marks::all(),
+            dirty: DirtySet::all(),
         }
     }
 
@@ -88,7 +88,7 @@ impl Keep {
         Ok(Keep {
             alloc,
             tree,
-            marks: Marks::all(),
+            dirty: DirtySet::all(),
         })
     }
 
@@ -108,13 +108,13 @@ impl Keep {
     {
         let family = self.tree.family();
         let least = least_table(self.alloc, &self.tree)?;
-        let tree = self.tree.enter_all(&least)?;
-        let mut marks = self.marks;
-        marks.leave(self.alloc, family, true, false, None);
+        let tree = self.tree.insert_entries(&least)?;
+        let mut dirty = self.dirty;
+        dirty.leave(self.alloc, family, true, false, None);
         let keep = Keep {
             alloc: self.alloc,
             tree,
-            marks,
+            dirty,
         };
         Ok((keep, least))
     }
@@ -134,7 +134,7 @@ impl Keep {
     {
         // the routes stand in order
         let _family = self.tree.family();
-        self.marks.mark(prefix)?;
+        self.dirty.mark(prefix)?;
         set(&mut self.tree, prefix, hop)?;
         if hop == Hop::NONE {
             self.tree.trim(prefix);
@@ -161,16 +161,16 @@ impl Keep {
         ensures family { self.new.family ≡ self.old.family }
         ensures table { self.new.entries ≡ self.old.entries }
         ensures routes { OnOk result (self.new.routes ≡ with_planned route self.old.routes) }
-        ensures planned { IfOk result (IsPlanned self.new) }
+        ensures planned { IfOk result (IsRepairPlanned self.new) }
         ensures moved { IfOk result (λ r. Tells self.new fewest (place_in route) snapshot (moved_of r)) }
         ensures undone { IfOk result (λ r. undone_by r self.new.routes ≡ self.old.routes) }
         ensures err { OnErr result (self.new.routes ≡ self.old.routes) }
     {
         // the routes stand in order
         let _family = self.tree.family();
-        self.marks.expect(planned_prefix(route));
+        self.dirty.expect(planned_prefix(route));
         let due = Due { fewest, snapshot };
-        match plan_moves(self.alloc, &mut self.tree, &mut self.marks, route, due) {
+        match plan_moves(self.alloc, &mut self.tree, &mut self.dirty, route, due) {
             Ok(repair) => Ok(repair),
             Err(failed) => {
                 trim_at(&mut self.tree, planned_prefix(route));
@@ -181,7 +181,7 @@ impl Keep {
 
     /// Makes the changes that were planned, where nothing changed since. It takes no memory.
     pub fn commit(&mut self, repair: Repair) -> Moved
-        requires { IsPlanned self.old repair }
+        requires { IsRepairPlanned self.old repair }
         ensures family { self.new.family ≡ self.old.family }
         ensures routes { self.new.routes ≡ self.old.routes }
         ensures table { after_changes (repair_as (moved_of repair) ++ snapshot_as (moved_of repair))
@@ -199,14 +199,14 @@ impl Keep {
         trim_last(&mut self.tree, at);
         trim_left(&mut self.tree, &moved.repair, true);
         trim_left(&mut self.tree, &moved.snapshot, true);
-        self.marks.leave(self.alloc, family, due, fewest, reach);
+        self.dirty.leave(self.alloc, family, due, fewest, reach);
         moved
     }
 
     /// Puts the route back, where nothing changed since the plan: routes and table are as they were before it. It takes no
     /// memory.
     pub fn undo(&mut self, repair: Repair)
-        requires { IsPlanned self.old repair }
+        requires { IsRepairPlanned self.old repair }
         ensures family { self.new.family ≡ self.old.family }
         ensures routes { self.new.routes ≡ undone_by repair self.old.routes }
         ensures table { self.new.entries ≡ self.old.entries }
@@ -217,7 +217,7 @@ impl Keep {
         trim_last(&mut self.tree, former_prefix(&repair.former));
         trim_left(&mut self.tree, &repair.moved.repair, false);
         trim_left(&mut self.tree, &repair.moved.snapshot, false);
-        self.marks.keep(former_prefix(&repair.former));
+        self.dirty.keep(former_prefix(&repair.former));
     }
 
     /// Makes the table least for the routes, with the table as the old one, and gives the changes.
@@ -310,12 +310,12 @@ impl Keep {
     /// # Errors
     ///
     /// No memory; then a front of the entries was taken.
-    pub fn hand_table<S: EntrySink>(&self, out: &mut S) -> Result<(), AllocError>
+    pub fn emit_table<S: EntrySink>(&self, out: &mut S) -> Result<(), AllocError>
         requires { S.ready out.old }
         ensures ready { OnOk result (S.ready out.new) }
         ensures takes { OnOk result (S.takes out.old self.now.entries out.new) }
     {
-        self.tree.hand_entries(out)
+        self.tree.emit_entries(out)
     }
 
     /// Hands on the entries of the least table of the routes, with the kept one as the old table, one by one.
@@ -323,13 +323,13 @@ impl Keep {
     /// # Errors
     ///
     /// No memory; then a front of the entries was taken.
-    pub fn hand_least<S: EntrySink>(&self, out: &mut S) -> Result<(), AllocError>
+    pub fn emit_least<S: EntrySink>(&self, out: &mut S) -> Result<(), AllocError>
         requires { S.ready out.old }
         ensures ready { OnOk result (S.ready out.new) }
         ensures takes { OnOk result (S.takes out.old
             (aggregate_in self.now.family self.now.routes self.now.entries) out.new) }
     {
-        hand_least(&self.tree, out)
+        emit_least(&self.tree, out)
     }
 
     /// Hands on the rows that prove a table of the routes least, one by one.

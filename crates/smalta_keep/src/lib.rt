@@ -10,17 +10,19 @@
 //! (event_moves), of which one at most, above the prefix, isn't within it. Such a table is seldom least within the prefix.
 //!
 //! A repair costs the prefix's length, and the regions within it that may change: those that no route of their own keeps from the
-//! prefix's route, those that come to inherit another hop, and those with a mark strictly within them or a wide one around them.
+//! prefix's route, those that come to inherit another hop, and those with a dirty prefix strictly within them or a wide one around them.
 //! Each prefix whose route changes is marked until the next snapshot, wide until its repair is made, or until then where that is
-//! one of the fewest changes. The snapshot goes over the wide marks, the way to each mark, and the regions that come to inherit
-//! another hop (kept_pass). The first snapshot, and one that comes after more than 16,384 changes, goes over the whole tree.
+//! one of the fewest changes. The snapshot goes over the wide dirty prefixes, the way to each dirty prefix, and the regions that come to inherit
+//! another hop (delta_pass). The first snapshot, and one that comes after more than 16,384 changes, goes over the whole tree.
 #![tactic(auto)]
 
 mod back;
+mod dirty;
 mod entries;
 mod idle;
 mod keep;
-mod marks;
+mod pass;
+mod place;
 mod plan;
 mod reach;
 mod repair;
@@ -28,4 +30,6 @@ mod routes;
 mod told;
 
 pub use keep::Keep;
+pub use pass::{Differing, differing_within, snapshot_delta};
+pub use place::node_at;
 pub use repair::{Moved, Repair};

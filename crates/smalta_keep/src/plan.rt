@@ -12,20 +12,20 @@ ghost use Rattle.fib_addr.specs.Views.{prefix_as};
 ghost use Rattle.fib_delta.specs.Views.{change_as};
 ghost use Rattle.smalta_keep.specs.Rooms.{AreOf, HaveRoom, KeepsEntries};
 ghost use Rattle.smalta_keep.specs.Routes.{HasFormer, former_place, undone_in};
-ghost use Rattle.kept_pass.specs.Known.{IsKnown};
+ghost use Rattle.smalta_keep.specs.KnownBelow.{IsKnown};
 ghost use Rattle.smalta_keep.specs.Known.{KnownAt, IsKnownToMend, AreMore, AreWide};
 ghost use Rattle.smalta_keep.specs.Answers.{IsAlikeFor};
-ghost use Rattle.smalta_keep.specs.Plans.{IsBeforeAt, IsMend, IsMoved, IsSet, IsStill, mended, repaired_table};
+ghost use Rattle.smalta_keep.specs.Plans.{IsBeforeAt, IsMend, IsMoved, IsRouteSet, RoutesStay, mended, repaired_table};
 ghost use Rattle.smalta_keep.specs.Views.{place_in};
 
+use crate::dirty::DirtySet;
 use crate::entries::{apply_all, are_at, make_room};
-use crate::marks::Marks;
 use crate::repair::{Moved, Repair};
 use crate::routes::{Former, former_prefix, planned_prefix, put_back_planned, set_planned};
+use crate::snapshot_delta;
 use crate::told::{Mend, mend_at};
 use fib_addr::{Hop, Prefix};
 use fib_delta::Change;
-use kept_pass::renew;
 use orig_tree::Tree;
 use std::alloc::{AllocError, Global};
 
@@ -46,14 +46,14 @@ pub struct Due {
 fn mend_set(
     alloc: Global,
     tree: &mut Tree,
-    marks: &Option<Tree>,
+    dirty: &Option<Tree>,
     former: Option<Former>,
     fewest: bool,
     back: bool,
 ) -> Result<Mend, AllocError>
     requires former { HasFormer tree.old former }
     requires before { IsBeforeAt fewest (former_place former) tree.old }
-    requires known { IsKnownToMend fewest (former_place former) tree.old marks.now }
+    requires known { IsKnownToMend fewest (former_place former) tree.old dirty.now }
     ensures keeps { KeepsEntries tree.old tree.new }
     ensures still { OnOk result (tree.new ≡ tree.old) }
     ensures mend { IfOk result (IsMend tree.old.family back tree.old.entries
@@ -62,7 +62,7 @@ fn mend_set(
         → option_map prefix_as m.reach ≡ former_place former) }
     ensures err { OnErr result (tree.new.routes ≡ undone_in former tree.old.routes) }
 {
-    match mend_at(alloc, tree, marks, former_prefix(&former), fewest, back) {
+    match mend_at(alloc, tree, dirty, former_prefix(&former), fewest, back) {
         Ok(mend) => Ok(mend),
         Err(failed) => {
             put_back_planned(tree, &former);
@@ -85,10 +85,10 @@ fn with_room(
 ) -> Result<Option<Former>, AllocError>
     requires family { ForSome route (λ r. r.0.family ≡ tree.old.family) }
     requires changes { AreOf tree.old.family (map change_as changes.now) }
-    requires set { IsSet route (undone_in former tree.old.routes) tree.old former }
+    requires set { IsRouteSet route (undone_in former tree.old.routes) tree.old former }
     ensures keeps { KeepsEntries tree.old tree.new }
     ensures room { OnOk result (HaveRoom tree.new.nodes (map change_as changes.now)) }
-    ensures set { IfOk result (IsSet route (undone_in former tree.old.routes) tree.new) }
+    ensures set { IfOk result (IsRouteSet route (undone_in former tree.old.routes) tree.new) }
     ensures err { OnErr result (tree.new.routes ≡ undone_in former tree.old.routes) }
 {
     if are_at(changes, former_prefix(&former)) {
@@ -107,25 +107,25 @@ fn with_room(
 fn snapshot_after(
     alloc: Global,
     tree: &mut Tree,
-    marks: &Option<Tree>,
+    dirty: &Option<Tree>,
     former: Option<Former>,
     mend: &Mend,
 ) -> Result<Vec<Change>, AllocError>
     requires former { HasFormer tree.old former }
-    requires known { KnownAt (option_map prefix_as mend.now.reach) tree.old marks.now }
+    requires known { KnownAt (option_map prefix_as mend.now.reach) tree.old dirty.now }
     requires mend { IsMend tree.old.family true tree.old.entries (mended mend.now tree.old.entries)
         mend.now }
     requires there { HaveRoom tree.old.nodes (map change_as mend.now.there.items) }
     requires back { HaveRoom tree.old.nodes (map change_as mend.now.back.items) }
     ensures keeps { KeepsEntries tree.old tree.new }
-    ensures still { OnOk result (IsStill tree.old tree.new) }
+    ensures still { OnOk result (RoutesStay tree.old tree.new) }
     ensures changes { IfOk result (λ v. map change_as v.items ≡ between (mended mend.now tree.old.entries)
         (aggregate_in tree.old.family tree.old.routes (mended mend.now tree.old.entries))) }
     ensures family { IfOk result (λ v. AreOf tree.old.family (map change_as v.items)) }
     ensures err { OnErr result (tree.new.routes ≡ undone_in former tree.old.routes) }
 {
     apply_all(tree, &mend.there);
-    let changes = renew(alloc, tree, marks);
+    let changes = snapshot_delta(alloc, tree, dirty);
     apply_all(tree, &mend.back);
     match changes {
         Ok(changes) => Ok(changes),
@@ -145,26 +145,26 @@ fn snapshot_after(
 pub fn plan_moves(
     alloc: Global,
     tree: &mut Tree,
-    marks: &mut Marks,
+    dirty: &mut DirtySet,
     route: Option<(Prefix, Hop)>,
     due: Due,
 ) -> Result<Repair, AllocError>
     requires family { ForSome route (λ r. r.0.family ≡ tree.old.family) }
-    requires known { IsKnown tree.old marks.old.tree }
+    requires known { IsKnown tree.old dirty.old.tree }
     requires alike { IsAlikeFor due.fewest route tree.old }
     ensures keeps { KeepsEntries tree.old tree.new }
-    ensures marks { AreMore marks.old.tree marks.new.tree }
-    ensures marked { OnOk result (AreWide (place_in route) marks.old.tree marks.new.tree) }
-    ensures set { IfOk result (λ r. IsSet route tree.old.routes tree.new r.former) }
+    ensures dirty { AreMore dirty.old.tree dirty.new.tree }
+    ensures marked { OnOk result (AreWide (place_in route) dirty.old.tree dirty.new.tree) }
+    ensures set { IfOk result (λ r. IsRouteSet route tree.old.routes tree.new r.former) }
     ensures moved { IfOk result (λ r. IsMoved tree.new due.fewest (place_in route) due.snapshot r) }
     ensures err { OnErr result (tree.new.routes ≡ tree.old.routes) }
 {
     // the routes stand in order
     let _family = tree.family();
     let former = set_planned(tree, route)?;
-    let mend = mend_set(alloc, tree, &marks.tree, former, due.fewest, due.snapshot)?;
-    marks.keep(planned_prefix(route));
-    marks.keep(mend.reach);
+    let mend = mend_set(alloc, tree, &dirty.tree, former, due.fewest, due.snapshot)?;
+    dirty.keep(planned_prefix(route));
+    dirty.keep(mend.reach);
     let former = with_room(tree, route, former, &mend.there)?;
     if !due.snapshot {
         let moved = Moved {
@@ -180,7 +180,7 @@ pub fn plan_moves(
         });
     }
     let former = with_room(tree, route, former, &mend.back)?;
-    let changes = snapshot_after(alloc, tree, &marks.tree, former, &mend)?;
+    let changes = snapshot_after(alloc, tree, &dirty.tree, former, &mend)?;
     let former = with_room(tree, route, former, &changes)?;
     let moved = Moved {
         repair: mend.there,

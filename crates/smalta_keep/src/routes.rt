@@ -10,7 +10,7 @@ ghost use Rattle.fib_addr.specs.Views.{prefix_as};
 ghost use Rattle.kept_model.specs.Patched.{with_route};
 ghost use Rattle.smalta_keep.specs.Rooms.{KeepsEntries};
 ghost use Rattle.smalta_keep.specs.Routes.{IsFormer, HasFormer, undone_in};
-ghost use Rattle.smalta_keep.specs.Plans.{IsSet};
+ghost use Rattle.smalta_keep.specs.Plans.{IsRouteSet};
 
 use fib_addr::{Hop, Prefix};
 use orig_tree::Tree;
@@ -90,7 +90,7 @@ pub fn set_planned(
 ) -> Result<Option<Former>, AllocError>
     requires { ForSome route (λ r. r.0.family ≡ tree.old.family) }
     ensures keeps { KeepsEntries tree.old tree.new }
-    ensures set { IfOk result (IsSet route tree.old.routes tree.new) }
+    ensures set { IfOk result (IsRouteSet route tree.old.routes tree.new) }
     ensures err { OnErr result (tree.new.routes ≡ tree.old.routes) }
 {
     match route {

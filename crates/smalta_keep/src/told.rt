@@ -6,20 +6,20 @@ ghost use Rattle.table_model.specs.Width.{width};
 ghost use Rattle.table_model.specs.Entries.{of_family};
 ghost use Rattle.kept_model.specs.Between.{AreEntries, between};
 ghost use Rattle.kept_model.specs.Patched.{patch_of};
-ghost use Rattle.moves_cert.specs.Rows.{near_in};
-ghost use Rattle.event_moves.specs.Event.{AlikeBefore};
+ghost use Rattle.moves_model.specs.Rows.{near_in};
+ghost use Rattle.fib_moves.specs.Event.{AlikeBefore};
 ghost use Rattle.fib_addr.specs.Views.{prefix_as, entry_as};
 ghost use Rattle.fib_delta.specs.Views.{change_as};
-ghost use Rattle.kept_pass.specs.Known.{IsKnownBefore};
+ghost use Rattle.smalta_keep.specs.KnownBelow.{IsKnownBefore};
 ghost use Rattle.smalta_keep.specs.Known.{IsKnownToMend};
 ghost use Rattle.smalta_keep.specs.Plans.{IsMend, IsBeforeAt, repaired_table};
 
 use crate::back::taken_back_if;
+use crate::differing_within;
 use crate::reach::reach_of;
-use event_moves::near_after;
 use fib_addr::{Entry, Prefix};
 use fib_delta::{Change, between};
-use kept_pass::differing_within;
+use fib_moves::near_after;
 use orig_tree::Tree;
 use std::alloc::{AllocError, Global};
 
@@ -53,23 +53,23 @@ fn between_if(
     }
 }
 
-/// The changes of a repair within a prefix, and back. It goes over the regions there that may change (kept_pass).
+/// The changes of a repair within a prefix, and back. It goes over the regions there that may change (delta_pass).
 fn mend_within(
     alloc: Global,
     tree: &Tree,
-    marks: &Option<Tree>,
+    dirty: &Option<Tree>,
     prefix: &Prefix,
     back: bool,
 ) -> Result<Mend, AllocError>
     requires family { prefix.now.family ≡ tree.now.family }
-    requires known { IsKnownBefore (prefix_as prefix.now) tree.now marks.now }
+    requires known { IsKnownBefore (prefix_as prefix.now) tree.now dirty.now }
     ensures mend { IfOk result (IsMend tree.now.family back tree.now.entries
         (patch_of tree.now.routes (prefix_as prefix.now) tree.now.entries)) }
     ensures reach { IfOk result (λ m. m.reach ≡ Some prefix.now) }
 {
     // the entries are of the family
     let _root = tree.root();
-    let tables = differing_within(alloc, tree, marks, prefix)?;
+    let tables = differing_within(alloc, tree, dirty, prefix)?;
     Ok(Mend {
         there: between(alloc, &tables.had, &tables.gets)?,
         back: between_if(alloc, back, &tables.gets, &tables.had)?,
@@ -98,14 +98,14 @@ fn mend_near(alloc: Global, tree: &Tree, prefix: &Prefix, back: bool) -> Result<
 pub fn mend_at(
     alloc: Global,
     tree: &Tree,
-    marks: &Option<Tree>,
+    dirty: &Option<Tree>,
     at: Option<Prefix>,
     fewest: bool,
     back: bool,
 ) -> Result<Mend, AllocError>
     requires family { ForSome at (λ p. p.family ≡ tree.now.family) }
     requires before { IsBeforeAt fewest (option_map prefix_as at) tree.now }
-    requires known { IsKnownToMend fewest (option_map prefix_as at) tree.now marks.now }
+    requires known { IsKnownToMend fewest (option_map prefix_as at) tree.now dirty.now }
     ensures mend { IfOk result (IsMend tree.now.family back tree.now.entries
         (repaired_table fewest tree.now (option_map prefix_as at))) }
     ensures reach { IfOk result (λ m. fewest ≡ false → m.reach ≡ at) }
@@ -117,7 +117,7 @@ pub fn mend_at(
             if fewest {
                 mend_near(alloc, tree, &prefix, back)
             } else {
-                mend_within(alloc, tree, marks, &prefix, back)
+                mend_within(alloc, tree, dirty, &prefix, back)
             }
         }
         None => Ok(Mend {

@@ -12,33 +12,33 @@ use Rattle.fib_addr.specs.declared.entry.Hop as code_hop
 use Rattle.orig_tree.specs.Views.{InPlace}
 use Rattle.route_tries.specs.Sizes.{sizes_as}
 use Rattle.route_tries.specs.declared.sizes.Sizes.{Sizes}
-use Rattle.fib_engine.specs.Held.{Held, routes_in}
-use Rattle.fib_engine.specs.Stands.{Stands}
+use Rattle.fib_engine.specs.Held.{EngineState, engine_routes}
+use Rattle.fib_engine.specs.Stands.{EngineStands}
 use Rattle.fib_engine.specs.Turns.{AreTurnsOf, Turning, turn_as}
-use Rattle.step_model.specs.Machine.{World, State, Runs, at_first}
-use Rattle.step_model.specs.Turns.{AreTurns}
-use Rattle.step_world.specs.World.{hops_in, steps_world}
-use Rattle.step_world.proofs.Turning.{are_turns, starts, starts_placed}
+use Rattle.step_script.specs.Machine.{World, State, Runs, at_first}
+use Rattle.step_script.specs.Turns.{AreTurns}
+use Rattle.step_run.specs.World.{world_hops, steps_world}
+use Rattle.step_run.proofs.WorldTurning.{are_turns, starts, starts_placed}
 use Rattle.std.specs.declared.vec.Vec.{Vec}
-use Rattle.step_model.specs.Script.{Step}
+use Rattle.step_script.specs.Script.{Step}
 use Rattle.step_script.specs.declared.row.Row.{Row}
-use Rattle.step_script.specs.RowViews.{row_as}
+use Rattle.step_script.specs.RowViews.{step_row_as}
 use Rattle.stepper.specs.declared.error.StepError.{StepError}
 use Rattle.stepper.specs.declared.stepper.Stepper.{Stepper}
-use Rattle.stepper.specs.Runs.{EndsBy, IsAnywhere, IsAtFirst, IsStart, IsStepper}
+use Rattle.stepper.specs.Runs.{StepsEndBy, IsAnywhere, IsAtFirst, IsStart, IsStepper}
 
-module _ (load updates : List Elem) (engine : Held) (s : Stands load [] engine) where
+module _ (load updates : List Elem) (engine : EngineState) (s : EngineStands load [] engine) where
   -- the engine's routes are those before the first event
-  pub first_routes : routes_in engine ≡ entries_of (hops_in load updates) (after_elems [] load)
+  pub first_routes : engine_routes engine ≡ entries_of (world_hops load updates) (after_elems [] load)
   first_routes =
       ap (λ (h : List Address). entries_of h engine.candidates) (s.hops ∙ ap (hops_after []) (append-nil load))
       ∙ (ap (entries_of (hops_after [] load)) s.candidates ∙ sym (starts load updates))
 
-  pub in_place : InPlace (routes_in engine)
-  in_place = subst (λ (L : Entries). InPlace L) (sym first_routes) (starts_placed (hops_in load updates) load s.proper.0)
+  pub in_place : InPlace (engine_routes engine)
+  in_place = subst (λ (L : Entries). InPlace L) (sym first_routes) (starts_placed (world_hops load updates) load s.proper.0)
 
   -- and what the events do is what the engine's turns say
-  pub starts_so : (z : Sizes) (routes : Entries) (turns : List (Option (code_prefix.Prefix × code_hop.Hop))) (hops : Hops) (is_full : Bool) (t : Turning) → routes ≡ routes_in engine → map turn_as turns ≡ t.turns → hops.list ≡ t.hops → is_full ≡ t.is_full → AreTurnsOf load updates t
+  pub starts_so : (z : Sizes) (routes : Entries) (turns : List (Option (code_prefix.Prefix × code_hop.Hop))) (hops : Hops) (is_full : Bool) (t : Turning) → routes ≡ engine_routes engine → map turn_as turns ≡ t.turns → hops.list ≡ t.hops → is_full ≡ t.is_full → AreTurnsOf load updates t
       → IsStart (steps_world (sizes_as z) load updates) z routes turns hops is_full
   starts_so z routes turns hops is_full t r e h f a = record {
     routes = r ∙ first_routes;
@@ -52,8 +52,8 @@ module _ (load updates : List Elem) (engine : Held) (s : Stands load [] engine) 
 
 -- a stepper is somewhere after its run, however it ended
 pub somewhere : {X : Type 0} (script : List Step) (old new : Stepper) (made : Result (Vec Row X) StepError) → IsAtFirst old
-    → IfOk made (λ rows. (w : World) → IsStepper w at_first old → (t : State) × Runs w at_first script (map row_as rows.items) t × IsStepper w t new)
-    → IfErr made (λ e. (w : World) → IsStepper w at_first old → EndsBy w script e × IsAnywhere new)
+    → IfOk made (λ rows. (w : World) → IsStepper w at_first old → (t : State) × Runs w at_first script (map step_row_as rows.items) t × IsStepper w t new)
+    → IfErr made (λ e. (w : World) → IsStepper w at_first old → StepsEndBy w script e × IsAnywhere new)
     → IsAnywhere new
 somewhere script old new (Ok rows) s runs stops = let r = runs s.0 s.1 in (s.0, r.0, r.2)
 somewhere script old new (Err e) s runs stops = (stops s.0 s.1).1

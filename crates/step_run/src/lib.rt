@@ -5,6 +5,8 @@
 #![tactic(auto)]
 
 mod run;
+mod world_law;
 
 pub use run::run_steps;
 pub use stepper::StepError;
+pub use world_law::turns_law;

@@ -5,11 +5,11 @@ ghost use Rattle.fib_prefix.specs.Views.{event_as};
 ghost use Rattle.route_model.specs.Events.{Elem};
 ghost use Rattle.route_model.specs.Choice.{after_elems, elems_after};
 ghost use Rattle.route_tries.specs.Sizes.{sizes_as};
-ghost use Rattle.fib_engine.specs.Stands.{Stands};
+ghost use Rattle.fib_engine.specs.Stands.{EngineStands};
 ghost use Rattle.fib_engine.specs.Turns.{AreTurnsOf};
 ghost use Rattle.step_script.specs.Steps.{step_as};
-ghost use Rattle.stepper.specs.Runs.{ArePrinted, EndsBy};
-ghost use Rattle.step_world.specs.Stepping.{IsTextOf, world_of};
+ghost use Rattle.stepper.specs.Runs.{ArePrinted, StepsEndBy};
+ghost use Rattle.step_run.specs.Stepping.{IsTextOf, world_of};
 
 use fib_engine::{Engine, Turns};
 use fib_prefix::Event;
@@ -20,7 +20,7 @@ use stepper::{StepError, Stepper};
 
 /// What the events after the load do to the routes.
 fn turns_of(engine: Engine, events: &[Event]) -> Result<Turns, AllocError>
-    ensures { IfOk result (λ turns. (load : List Elem) → Stands load [] engine
+    ensures { IfOk result (λ turns. (load : List Elem) → EngineStands load [] engine
         → AreTurnsOf load (elems_after (after_elems [] load) (map event_as events.now)) turns) }
 {
     let mut turns = engine.turns();
@@ -42,14 +42,14 @@ pub fn run_steps(
     sizes: &Sizes,
     script: &[Step],
 ) -> Result<Vec<u8>, StepError>
-    requires stands { (load : List Elem) × Stands load [] engine }
+    requires stands { (load : List Elem) × EngineStands load [] engine }
     requires sizes { engine.sizes ≡ sizes_as sizes.now }
     requires few { ArePrinted (map step_as script.now) }
-    ensures text { IfOk result (λ text. (load : List Elem) → Stands load [] engine → IsTextOf (record {
+    ensures text { IfOk result (λ text. (load : List Elem) → EngineStands load [] engine → IsTextOf (record {
       script = map step_as script.now;
       world = world_of (sizes_as sizes.now) load (map event_as events.now);
     }) text.items) }
-    ensures stops { IfErr result (λ e. (load : List Elem) → Stands load [] engine → EndsBy (world_of
+    ensures stops { IfErr result (λ e. (load : List Elem) → EngineStands load [] engine → StepsEndBy (world_of
         (sizes_as sizes.now) load (map event_as events.now)) (map step_as script.now) e) }
 {
     let routes = engine.routes()?;

@@ -4,10 +4,10 @@ use Rattle.std.specs.Prelude.{◌==◌}
 use Rattle.octet_fields.specs.Field.{◌>>=◌}
 use Rattle.std.proofs.lemmas.Bool.{eqb-true}
 use Rattle.bstr.specs.Text.{without_terminator, lines_of as cut_lines}
-use Rattle.printed_model.specs.Texts.{lines_of}
-use Rattle.printed_model.proofs.Lines.{lines_same, few_lines}
+use Rattle.printed_text.specs.Texts.{lines_of}
+use Rattle.printed_text.proofs.Lines.{lines_same, few_lines}
 use Rattle.std.proofs.lemmas.List.{length-map}
-use Rattle.step_model.specs.Script.{Step, step_in, with_step, steps_after, script_in}
+use Rattle.step_script.specs.Script.{Step, step_in, with_step, steps_after, script_in}
 
 -- the steps of the n lines so far, and the lines left
 pub record Left (steps : List Step) (n : ℕ) (lines : List (List ℕ)) (text : List ℕ) : Type 0 where

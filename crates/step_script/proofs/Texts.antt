@@ -4,7 +4,7 @@ use Rattle.std.proofs.lemmas.List.{take_more, map-append, length-map, length-tak
 use Rattle.std.specs.Io.KnownBytes.{Appends}
 use Rattle.csv.specs.Writing.{text_written}
 use Rattle.csv.specs.declared.writer.Writer.{Writer}
-use Rattle.step_model.specs.Rows.{StepRow, row_line, rows_text}
+use Rattle.step_script.specs.Rows.{StepRow, row_line, rows_text}
 use Rattle.fib_report.specs.Writing.{AddsRows}
 
 pub no_rows : rows_text 1 [] ≡ []

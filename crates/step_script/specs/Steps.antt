@@ -2,10 +2,10 @@
 use Rattle.std.specs.Prelude.{◌≡◌, List, Result, Ok, Err, map}
 use Rattle.std.specs.declared.vec.Vec.{Vec}
 use Rattle.fib_addr.specs.Views.{addr_as}
-use Rattle.printed_model.specs.Texts.{BadLine}
-use Rattle.cost_cert.specs.Printed.{bad_as}
-use Rattle.step_model.specs.Script as script
-use Rattle.step_model.specs.Script.{opens, goes, prepares, stores, ends, cancels}
+use Rattle.printed_text.specs.Texts.{BadLine}
+use Rattle.printed_text.specs.Printed.{bad_as}
+use Rattle.step_script.specs.Script as script
+use Rattle.step_script.specs.Script.{opens, goes, prepares, stores, ends, cancels}
 use Rattle.step_script.specs.declared.step.Step.{Step}
 use Rattle.step_script.specs.declared.step.Step.TheVariants as step
 use Rattle.step_script.specs.declared.script.ScriptError.{ScriptError}
@@ -20,7 +20,7 @@ step_as step.End = ends
 step_as step.Cancel = cancels
 
 -- what a reader of a script returned is what the definition gives, unless memory ran out
-abbrev pub IsRead : {X : Type 0} → Result (Vec Step X) ScriptError → Result (List script.Step) BadLine → Type 0
-IsRead (Ok steps) due = due ≡ Ok (map step_as steps.items)
-IsRead (Err (error.BadLine bad)) due = due ≡ Err (bad_as bad)
-IsRead (Err error.NoMemory) due = Unit {0}
+abbrev pub IsScriptRead : {X : Type 0} → Result (Vec Step X) ScriptError → Result (List script.Step) BadLine → Type 0
+IsScriptRead (Ok steps) due = due ≡ Ok (map step_as steps.items)
+IsScriptRead (Err (error.BadLine bad)) due = due ≡ Err (bad_as bad)
+IsScriptRead (Err error.NoMemory) due = Unit {0}

@@ -1,12 +1,12 @@
 //! Whole scripts.
 
 ghost use Rattle.std.specs.Prelude.{◌≡◌};
-ghost use Rattle.step_model.specs.Script.{script_in};
-ghost use Rattle.step_script.specs.Steps.{IsRead};
+ghost use Rattle.step_script.specs.Script.{script_in};
+ghost use Rattle.step_script.specs.Steps.{IsScriptRead};
 
 use crate::step::{Step, read_step};
 use bstr::ByteSlice;
-use cost_cert::BadRow;
+use printed_text::BadRow;
 use std::alloc::{AllocFailed, Global};
 use thiserror::Error;
 
@@ -38,7 +38,7 @@ impl<T: Drop> From<AllocFailed<T>> for ScriptError {
 /// `BadLine` names the first line that is neither empty nor a step; or no memory.
 #[tactic(auto, using(crate::proofs::Lines::starts))]
 pub fn read_script(alloc: Global, text: &[u8]) -> Result<Vec<Step>, ScriptError>
-    ensures { IsRead result (script_in text.now) }
+    ensures { IsScriptRead result (script_in text.now) }
 {
     let mut steps = Vec::new(alloc);
     let mut line_number = 0;

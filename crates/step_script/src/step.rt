@@ -2,12 +2,12 @@
 
 ghost use Rattle.octet_fields.specs.Gives.{Gives};
 ghost use Rattle.fib_addr.specs.Views.{addr_as};
-ghost use Rattle.step_model.specs.Script.{bare, cursor_field, step_in, step_of};
+ghost use Rattle.step_script.specs.Script.{fieldless, cursor_field, step_in, step_of};
 ghost use Rattle.step_script.specs.Steps.{step_as};
 
-use cost_cert::fields::{Fields, address_field, is, next_field, one_field};
-use cost_cert::why;
 use fib_addr::{Addr, read_number};
+use printed_text::fields::{Fields, address_field, is, next_field, one_field};
+use printed_text::why;
 
 /// A step of a run.
 #[derive(Clone, Copy, Debug, PartialEq, Eq)]
@@ -29,7 +29,7 @@ pub enum Step {
 /// A step without more fields.
 #[tactic(auto, using(crate::proofs::More::bare_more))]
 fn bare_step(step: Step, fields: Fields<'_>) -> Result<Step, u8>
-    ensures { Gives step_as result (bare (step_as step) fields.entry) }
+    ensures { Gives step_as result (fieldless (step_as step) fields.entry) }
 {
     if fields.is_empty() {
         Ok(step)
@@ -49,7 +49,7 @@ fn cursor(text: &[u8]) -> Result<u8, u8>
 }
 
 /// The step of this word and the fields after it.
-#[tactic(auto, unfolding(step_model::specs::Script::step_of))]
+#[tactic(auto, unfolding(crate::specs::Script::step_of))]
 fn step_of(word: &[u8], fields: Fields<'_>) -> Result<Step, u8>
     ensures { Gives step_as result (step_of word.now fields.entry) }
 {
@@ -80,8 +80,8 @@ fn step_of(word: &[u8], fields: Fields<'_>) -> Result<Step, u8>
 ///
 /// # Errors
 ///
-/// The line has none; the number says why (`cost_cert::why`).
-#[tactic(auto, unfolding(step_model::specs::Script::step_in))]
+/// The line has none; the number says why (`printed_text::why`).
+#[tactic(auto, unfolding(crate::specs::Script::step_in))]
 pub fn read_step(line: &[u8]) -> Result<Step, u8>
     ensures { Gives step_as result (step_in line.now) }
 {

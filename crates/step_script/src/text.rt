@@ -10,10 +10,10 @@
 
 ghost use Rattle.std.specs.Prelude.{◌≡◌, ◌∷◌, [], codes, decimal, map, option_map, IfOk, OnOk};
 ghost use Rattle.fib_addr.specs.Views.{addr_as};
-ghost use Rattle.printed_model.specs.Rows.{hop_text, line};
-ghost use Rattle.step_model.specs.Rows.{row_line, rows_text};
+ghost use Rattle.printed_text.specs.Rows.{hop_text, line};
+ghost use Rattle.step_script.specs.Rows.{row_line, rows_text};
 ghost use Rattle.fib_report.specs.Writing.{AddsRows, IsAtRow};
-ghost use Rattle.step_script.specs.RowViews.{row_as};
+ghost use Rattle.step_script.specs.RowViews.{step_row_as};
 
 use crate::row::Row;
 use csv::Writer;
@@ -76,7 +76,7 @@ fn put_answer<W: Write + Drop>(
 /// Writes the row of the step of this number.
 fn put_row<W: Write + Drop>(out: &mut Writer<W>, step: u64, row: Row) -> Result<(), AllocError>
     requires { IsAtRow out.old }
-    ensures { OnOk result (AddsRows W.contents out.old out.new (row_line step (row_as row))) }
+    ensures { OnOk result (AddsRows W.contents out.old out.new (row_line step (step_row_as row))) }
 {
     match row {
         Row::Opened(lookup) => put_lookup(out, step, b"open", lookup),
@@ -98,7 +98,7 @@ fn put_row<W: Write + Drop>(out: &mut Writer<W>, step: u64, row: Row) -> Result<
 
 /// The text of the rows of steps that are numbered from 1. An `Err` means that memory ran out.
 pub fn rows_text(alloc: Global, rows: &[Row]) -> Result<Vec<u8>, AllocError>
-    ensures { IfOk result (λ text. text.items ≡ rows_text 1 (map row_as rows.now)) }
+    ensures { IfOk result (λ text. text.items ≡ rows_text 1 (map step_row_as rows.now)) }
 {
     let mut out = row_writer(alloc);
     let mut step = 0;

@@ -4,8 +4,8 @@ use Rattle.table_model.specs.declared.family.Family.{Family}
 use Rattle.poptrie_update.specs.Lives.{stores_left}
 use Rattle.poptrie_update.specs.Pendings.{IsTokenOf}
 use Rattle.poptrie_update.specs.declared.pending.Pending.{Pending}
-use Rattle.step_model.specs.Rows.{nothing, left}
-use Rattle.step_model.specs.Machine.{World, State, Begun, StoresOne, Ends, count_of, changes_before}
+use Rattle.step_script.specs.Rows.{nothing, left}
+use Rattle.step_script.specs.Machine.{World, State, Begun, StoresOne, EndsEvent, count_of, changes_before}
 use Rattle.paused_routes.specs.declared.routes.PausedRoutes.{PausedRoutes}
 use Rattle.paused_routes.specs.Paused.{IsAt, shown_after}
 use Rattle.paused_routes.specs.Calls.{store_row}
@@ -54,13 +54,13 @@ fewer_left p q k j one stores_one before after makes e =
     let new = left_of w f m.0 q j (record { stores = o.0.stores; made = suc o.0.made }) m.2 after (ap (λ (u : State). u.begun) made.1) in
     omega (arith, old, new)
 
-pub none_left : (p q r : PausedRoutes) (one : Bool) → one ≡ false → Makes p one q → ((w : World) (f : Family) (s : State) → IsAt w f s q → (t : State) × Ends s s.begun left t × IsAt w f t r) → IsEarly p → ⊥
+pub none_left : (p q r : PausedRoutes) (one : Bool) → one ≡ false → Makes p one q → ((w : World) (f : Family) (s : State) → IsAt w f s q → (t : State) × EndsEvent s s.begun left t × IsAt w f t r) → IsEarly p → ⊥
 none_left p q r one stores_none makes ends e =
     let s = e.2 in
     let m = makes e.0 e.1 s e.3 in
     let over = ends e.0 e.1 m.0 m.2 in
     apart s m.0 over.0 s.begun refl (subst (λ (x : Bool). StoresOne s s.begun (store_row x) m.0) stores_none m.1) over.1
   where
-    apart : (s t u : State) (b : Option Begun) → s.begun ≡ b → StoresOne s b nothing t → Ends t t.begun left u → ⊥
-    apart s t u None is m over = let z = subst (λ (x : Option Begun). Ends t x left u) (ap (λ (v : State). v.begun) m.1 ∙ is) over in let no = z.0 in absurd (cc)
-    apart s t u (Some b) is m over = let z = subst (λ (x : Option Begun). Ends t x left u) (ap (λ (v : State). v.begun) m.1 ∙ is) over in omega (arith, m.0, z.0)
+    apart : (s t u : State) (b : Option Begun) → s.begun ≡ b → StoresOne s b nothing t → EndsEvent t t.begun left u → ⊥
+    apart s t u None is m over = let z = subst (λ (x : Option Begun). EndsEvent t x left u) (ap (λ (v : State). v.begun) m.1 ∙ is) over in let no = z.0 in absurd (cc)
+    apart s t u (Some b) is m over = let z = subst (λ (x : Option Begun). EndsEvent t x left u) (ap (λ (v : State). v.begun) m.1 ∙ is) over in omega (arith, m.0, z.0)

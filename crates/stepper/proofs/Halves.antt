@@ -9,10 +9,10 @@ use Rattle.fib_addr.specs.declared.prefix.Prefix as code_prefix
 use Rattle.fib_addr.specs.declared.entry.Hop as code_hop
 use Rattle.poptrie_update.specs.Lives.{Living}
 use Rattle.poptrie_update.specs.Pendings.{IsTokenOf}
-use Rattle.step_model.specs.Rows.{StepRow, opened, full, went_on, answered, not_open, prepared, pinned, busy, stored, ended, left, cancelled, late, nothing}
-use Rattle.step_model.specs.Machine as machine
-use Rattle.step_model.specs.Machine.{World, State, Lookup, Opens, Goes, is_in, with_lookup}
-use Rattle.step_model.specs.Turns.{AreTurns, entries_in}
+use Rattle.step_script.specs.Rows.{StepRow, opened, full, went_on, answered, not_open, prepared, pinned, busy, stored, ended, left, cancelled, late, nothing}
+use Rattle.step_script.specs.Machine as machine
+use Rattle.step_script.specs.Machine.{World, State, Lookup, Opens, Goes, changes_family, with_lookup}
+use Rattle.step_script.specs.Turns.{AreTurns, entries_in}
 use Rattle.paused_routes.specs.declared.routes.PausedRoutes.{PausedRoutes}
 use Rattle.paused_routes.specs.Paused.{IsAt, is_own, shown_after}
 use Rattle.paused_routes.specs.Calls.{IsElsewhere, ended_with}
@@ -20,12 +20,12 @@ use Rattle.paused_routes.proofs.Elsewhere.{elsewhere_at, over_at}
 use Rattle.stepper.specs.declared.begun.Begun.{Begun}
 use Rattle.stepper.specs.declared.begun.Begun.TheVariants as begun
 use Rattle.stepper.specs.declared.stepper.Stepper.{Stepper}
-use Rattle.stepper.specs.Runs.{turn_as, IsHalf, IsEvent, IsBegunAs, IsStepper}
+use Rattle.stepper.specs.Runs.{step_turn_as, IsHalf, IsBegunEvent, IsBegunAs, IsStepper}
 use Rattle.stepper.proofs.Worlds.{elsewhere_next}
 
 -- ---- the other family
 
-pub in_other : (f g : Family) (o : Option Prefix) → same_family f g ≡ false → is_in f o ≡ true → is_in g o ≡ false
+pub in_other : (f g : Family) (o : Option Prefix) → same_family f g ≡ false → changes_family f o ≡ true → changes_family g o ≡ false
 in_other f g None apart e = absurd (cc)
 in_other f g (Some p) apart e = by f g p.family apart e
   where
@@ -37,7 +37,7 @@ in_other f g (Some p) apart e = by f g p.family apart e
     by V6 V4 V4 a e = absurd (cc)
     by V6 V4 V6 a e = refl
 
-module _ (w : World) (f : Family) (n : ℕ) (other : is_in f (w.changed n) ≡ false) where
+module _ (w : World) (f : Family) (n : ℕ) (other : changes_family f (w.changed n) ≡ false) where
   pub not_own : (b : Option machine.Begun) → is_own w f n b ≡ false
   not_own None = refl
   not_own (Some x) = other
@@ -55,20 +55,20 @@ half_at w f s t p q same begun tree at h = record {
 }
 
 pub half_elsewhere : (w : World) (f : Family) (s t : State) (p : PausedRoutes) → IsElsewhere w f s t → IsHalf w f s p → IsHalf w f t p
-half_elsewhere w f s t p e h = by (is_in f (w.changed s.ended)) refl
+half_elsewhere w f s t p e h = by (changes_family f (w.changed s.ended)) refl
   where
     at : IsAt w f t p
     at = elsewhere_at w f s t p e h.at
 
-    by : (i : Bool) → is_in f (w.changed s.ended) ≡ i → IsHalf w f t p
+    by : (i : Bool) → changes_family f (w.changed s.ended) ≡ i → IsHalf w f t p
     by true i = half_at w f s t p p e.ended (e.begun i) refl at h
     by false i = record {
       at = at;
-      routes = h.routes ∙ ap (λ (n : ℕ). entries_in f (w.routes n)) (shown_now w f s.ended i s.begun ∙ (sym e.ended ∙ sym (shown_now w f t.ended (ap (λ (n : ℕ). is_in f (w.changed n)) e.ended ∙ i) t.begun)));
-      before = λ own. let q = not_own w f t.ended (ap (λ (n : ℕ). is_in f (w.changed n)) e.ended ∙ i) t.begun in absurd (cc);
+      routes = h.routes ∙ ap (λ (n : ℕ). entries_in f (w.routes n)) (shown_now w f s.ended i s.begun ∙ (sym e.ended ∙ sym (shown_now w f t.ended (ap (λ (n : ℕ). changes_family f (w.changed n)) e.ended ∙ i) t.begun)));
+      before = λ own. let q = not_own w f t.ended (ap (λ (n : ℕ). changes_family f (w.changed n)) e.ended ∙ i) t.begun in absurd (cc);
     }
 
-pub half_over : (w : World) (turns : List (Option (code_prefix.Prefix × code_hop.Hop))) (f : Family) (s : State) (p : PausedRoutes) → AreTurns w (map turn_as turns) → is_in f (w.changed s.ended) ≡ false → IsHalf w f s p → IsHalf w f (ended_with s) p
+pub half_over : (w : World) (turns : List (Option (code_prefix.Prefix × code_hop.Hop))) (f : Family) (s : State) (p : PausedRoutes) → AreTurns w (map step_turn_as turns) → changes_family f (w.changed s.ended) ≡ false → IsHalf w f s p → IsHalf w f (ended_with s) p
 half_over w turns f s p are i h = record {
   at = over_at w f s p i h.at;
   routes = h.routes ∙ (ap (λ (n : ℕ). entries_in f (w.routes n)) (shown_now w f s.ended i s.begun) ∙ sym (elsewhere_next w turns are f s.ended i));
@@ -132,7 +132,7 @@ half_moved : (w : World) (f g : Family) (s t : State) (p : PausedRoutes) → Mov
 half_moved w f g s t p m apart h = half_elsewhere w g s t p (record { ended = m.ended; lookups = m.others g apart; begun = λ e. m.begun }) h
 
 -- what is begun stays
-event_kept : (w : World) (n : ℕ) (p q r u : PausedRoutes) (e : Begun) (b : machine.Begun) → r.live ≡ p.live → u.live ≡ q.live → IsEvent w n p q e b → IsEvent w n r u e b
+event_kept : (w : World) (n : ℕ) (p q r u : PausedRoutes) (e : Begun) (b : machine.Begun) → r.live ≡ p.live → u.live ≡ q.live → IsBegunEvent w n p q e b → IsBegunEvent w n r u e b
 event_kept w n p q r u begun.Nothing b x y h = h
 event_kept w n p q r u (begun.Update V4 k) b x y h = (h.0, subst (λ (l : Living). IsTokenOf k l) (sym x) h.1)
 event_kept w n p q r u (begun.Update V6 k) b x y h = (h.0, subst (λ (l : Living). IsTokenOf k l) (sym y) h.1)

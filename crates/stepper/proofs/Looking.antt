@@ -3,8 +3,8 @@ use Rattle.std.proofs.Common.{◌≡◌, ◌<◌, ℕ, Option, sym, ap, ◌∙�
 use Rattle.table_model.specs.Address.{Address}
 use Rattle.table_model.specs.declared.family.Family.{Family}
 use Rattle.table_model.specs.declared.family.Family.TheVariants.{V4, V6}
-use Rattle.step_model.specs.Rows.{StepRow, opened, answered, printed_number}
-use Rattle.step_model.specs.Machine.{World, State, Opens, Goes}
+use Rattle.step_script.specs.Rows.{StepRow, opened, answered, printed_number}
+use Rattle.step_script.specs.Machine.{World, State, Opens, Goes}
 
 printed_same : (f : Family) (n m : ℕ) → printed_number f n ≡ printed_number f m → n ≡ m
 printed_same V4 n m e = e

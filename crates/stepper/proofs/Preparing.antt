@@ -10,19 +10,19 @@ use Rattle.kept_model.specs.Patched.{with_route}
 use Rattle.fib_addr.specs.declared.prefix.Prefix as code_prefix
 use Rattle.fib_addr.specs.declared.entry.Hop as code_hop
 use Rattle.fib_addr.specs.Answers.{all_answers}
-use Rattle.poptrie_cursor.specs.Cursors.{lookup_of}
-use Rattle.poptrie_cursor.specs.declared.cursors.Lookup as code_lookup
+use Rattle.poptrie_update.specs.Cursors.{lookup_of}
+use Rattle.poptrie_update.specs.declared.cursors.Lookup as code_lookup
 use Rattle.poptrie_update.specs.Pendings.{IsTokenOf}
 use Rattle.poptrie_update.specs.declared.pending.Pending.{Pending}
 use Rattle.poptrie_update.specs.declared.pending.NotReady.{NotReady}
 use Rattle.poptrie_update.specs.declared.pending.NotReady.TheVariants as why
-use Rattle.step_model.specs.Script.{prepares}
-use Rattle.step_model.specs.Rows.{prepared, pinned, printed_number}
-use Rattle.step_model.specs.Machine as machine
-use Rattle.step_model.specs.Machine.{World, State, Lookup, MayStore, Prepares, HasRoom, HasRoomNext, words, is_in, changes_before}
-use Rattle.step_model.specs.Turns.{Turn, turn_at, entries_in}
+use Rattle.step_script.specs.Script.{prepares}
+use Rattle.step_script.specs.Rows.{prepared, pinned, printed_number}
+use Rattle.step_script.specs.Machine as machine
+use Rattle.step_script.specs.Machine.{World, State, Lookup, MayStore, Prepares, HasRoom, HasRoomNext, words, changes_family, changes_before}
+use Rattle.step_script.specs.Turns.{Turn, turn_at, entries_in}
 use Rattle.step_script.specs.declared.row.Row.{Row}
-use Rattle.step_script.specs.RowViews.{row_as}
+use Rattle.step_script.specs.RowViews.{step_row_as}
 use Rattle.paused_routes.specs.declared.routes.PausedRoutes.{PausedRoutes}
 use Rattle.paused_routes.specs.Paused.{IsAt, AreSame}
 use Rattle.paused_routes.specs.Calls.{begun_with, IsNext, IsHindered}
@@ -30,24 +30,24 @@ use Rattle.stepper.specs.declared.begun.Begun.{Begun}
 use Rattle.stepper.specs.declared.begun.Begun.TheVariants as begun
 use Rattle.stepper.specs.declared.error.StepError.{StepError}
 use Rattle.stepper.specs.declared.stepper.Stepper.{Stepper}
-use Rattle.stepper.specs.Runs.{IsHalf, IsBegunAs, IsStepper, IsStop, turn_as}
-use Rattle.stepper.specs.Calls.{Leads, IsEarly, IsFewIn, begun_of, said_of}
+use Rattle.stepper.specs.Runs.{IsHalf, IsBegunAs, IsStepper, IsStop, step_turn_as}
+use Rattle.stepper.specs.Calls.{StepLeads, IsEarly, IsFewIn, begun_of, said_of}
 use Rattle.stepper.proofs.Worlds.{answers_of, here_next}
 use Rattle.stepper.proofs.Assembled.{own, with_half, with_begun, half_in, put_together, token_in, quiet_of, event_of, routes_quiet, half_quiet, half_begun, others_begun, half_nothing}
 
 -- ---- the turn of a place
 
-turn_in : (turns : List (Option (code_prefix.Prefix × code_hop.Hop))) (n : ℕ) (turn : Option (code_prefix.Prefix × code_hop.Hop)) → n < length turns → turn ≡ get_or turns n turn → turn_at n (map turn_as turns) ≡ turn_as turn
+turn_in : (turns : List (Option (code_prefix.Prefix × code_hop.Hop))) (n : ℕ) (turn : Option (code_prefix.Prefix × code_hop.Hop)) → n < length turns → turn ≡ get_or turns n turn → turn_at n (map step_turn_as turns) ≡ step_turn_as turn
 unfolding turn_at
 turn_in [] n turn less e = absurd (omega (arith, less))
-turn_in (t ∷ turns) zero turn less e = ap turn_as (sym e)
+turn_in (t ∷ turns) zero turn less e = ap step_turn_as (sym e)
 turn_in (t ∷ turns) (suc n) turn less e = turn_in turns n turn (omega (arith, less)) e
 
 less_than : (a b : ℕ) → true ≡ nat_lt a b → a < b
 less_than a b e = grind (arith, nat_tests)
 
-pub turn_there : (xs turns : List (Option (code_prefix.Prefix × code_hop.Hop))) (n : ℕ) (turn due : Option (code_prefix.Prefix × code_hop.Hop)) → xs ≡ turns → true ≡ nat_lt n (length xs) → turn ≡ get_or xs n turn → turn ≡ due → turn_at n (map turn_as turns) ≡ turn_as due
-turn_there xs turns n turn due is less e same = subst (λ (L : List (Option (code_prefix.Prefix × code_hop.Hop))). turn_at n (map turn_as L) ≡ turn_as due) is (turn_in xs n turn (less_than n (length xs) less) e ∙ ap turn_as same)
+pub turn_there : (xs turns : List (Option (code_prefix.Prefix × code_hop.Hop))) (n : ℕ) (turn due : Option (code_prefix.Prefix × code_hop.Hop)) → xs ≡ turns → true ≡ nat_lt n (length xs) → turn ≡ get_or xs n turn → turn ≡ due → turn_at n (map step_turn_as turns) ≡ step_turn_as due
+turn_there xs turns n turn due is less e same = subst (λ (L : List (Option (code_prefix.Prefix × code_hop.Hop))). turn_at n (map step_turn_as L) ≡ step_turn_as due) is (turn_in xs n turn (less_than n (length xs) less) e ∙ ap step_turn_as same)
 
 pub one_left : (xs turns : List (Option (code_prefix.Prefix × code_hop.Hop))) (n : ℕ) → xs ≡ turns → true ≡ nat_lt n (length xs) → n < length turns
 one_left xs turns n is less = subst (λ (L : List (Option (code_prefix.Prefix × code_hop.Hop))). n < length L) is (less_than n (length xs) less)
@@ -56,7 +56,7 @@ pub none_of : {X : Type 0} (o : Option X) → is_some o ≡ false → o ≡ None
 none_of None e = refl
 none_of (Some x) e = absurd (cc)
 
-map_many : (turns : List (Option (code_prefix.Prefix × code_hop.Hop))) → length (map turn_as turns) ≡ length turns
+map_many : (turns : List (Option (code_prefix.Prefix × code_hop.Hop))) → length (map step_turn_as turns) ≡ length turns
 map_many [] = refl
 map_many (t ∷ turns) = ap suc (map_many turns)
 
@@ -65,7 +65,7 @@ map_many (t ∷ turns) = ap suc (map_many turns)
 pub few_changes : (w : World) (f : Family) (n : ℕ) → changes_before w f n ≤ n
 unfolding changes_before
 few_changes w f zero = omega arith
-few_changes w f (suc n) = by (is_in f (w.changed n)) (few_changes w f n)
+few_changes w f (suc n) = by (changes_family f (w.changed n)) (few_changes w f n)
   where
     by : (b : Bool) → changes_before w f n ≤ n → cond b 1 0 + changes_before w f n ≤ suc n
     by true le = omega (arith, le)
@@ -95,14 +95,14 @@ module _ (w : World) (s : State) (x : Stepper) (quiet : x.begun ≡ None) (h : I
   left : x.ended < length x.turns.items → s.ended < w.events
   left next = omega (arith, next, h.ended, map_many x.turns.items, h.turns.many)
 
-  at_state : (t : Turn) → turn_at x.ended (map turn_as x.turns.items) ≡ t → turn_at s.ended (map turn_as x.turns.items) ≡ t
-  at_state t e = ap (λ (n : ℕ). turn_at n (map turn_as x.turns.items)) (sym h.ended) ∙ e
+  at_state : (t : Turn) → turn_at x.ended (map step_turn_as x.turns.items) ≡ t → turn_at s.ended (map step_turn_as x.turns.items) ≡ t
+  at_state t e = ap (λ (n : ℕ). turn_at n (map step_turn_as x.turns.items)) (sym h.ended) ∙ e
 
-  changed : (t : Turn) → turn_at x.ended (map turn_as x.turns.items) ≡ t → w.changed s.ended ≡ option_map (λ u. u.0) t
+  changed : (t : Turn) → turn_at x.ended (map step_turn_as x.turns.items) ≡ t → w.changed s.ended ≡ option_map (λ u. u.0) t
   changed t e = (h.turns.each s.ended).changed ∙ ap (option_map (λ u. u.0)) (at_state t e)
 
   -- one that changes no chosen hop
-  pub begun_nothing : x.ended < length x.turns.items → turn_at x.ended (map turn_as x.turns.items) ≡ None → Leads w s prepares prepared (with_begun (Some begun.Nothing) x)
+  pub begun_nothing : x.ended < length x.turns.items → turn_at x.ended (map step_turn_as x.turns.items) ≡ None → StepLeads w s prepares prepared (with_begun (Some begun.Nothing) x)
   begun_nothing next turn =
       let none : w.changed s.ended ≡ None = changed None turn in
       let t : State = begun_with (words []) s in
@@ -113,12 +113,12 @@ module _ (w : World) (s : State) (x : Stepper) (quiet : x.begun ≡ None) (h : I
       )
 
   -- an update of a family
-  module _ (f : Family) (to : Prefix) (hop : ℕ) (next : x.ended < length x.turns.items) (turn : turn_at x.ended (map turn_as x.turns.items) ≡ Some (to, hop)) (fam : to.family ≡ f) where
+  module _ (f : Family) (to : Prefix) (hop : ℕ) (next : x.ended < length x.turns.items) (turn : turn_at x.ended (map step_turn_as x.turns.items) ≡ Some (to, hop)) (fam : to.family ≡ f) where
     half : IsHalf w f s (own f x)
     half = half_in w f s x h
 
-    here : is_in f (w.changed s.ended) ≡ true
-    here = ap (is_in f) (changed (Some (to, hop)) turn) ∙ (ap (same_family f) fam ∙ same_family_itself f)
+    here : changes_family f (w.changed s.ended) ≡ true
+    here = ap (changes_family f) (changed (Some (to, hop)) turn) ∙ (ap (same_family f) fam ∙ same_family_itself f)
 
     later : entries_in f (w.routes (suc s.ended)) ≡ with_route to hop (own f x).tree.routes
     later = here_next w x.turns.items h.turns f s.ended to hop (at_state (Some (to, hop)) turn) fam ∙ ap (with_route to hop) (sym (routes_quiet w f s (own f x) still half))
@@ -131,7 +131,7 @@ module _ (w : World) (s : State) (x : Stepper) (quiet : x.begun ≡ None) (h : I
     }
 
     -- it is made ready
-    ready : (k : Pending) (p : PausedRoutes) (what : machine.Stores) → IsTokenOf k p.live → HasRoom w f (suc s.ended) → MayStore w s.ended (w.changed s.ended) what → IsAt w f (begun_with what s) p → p.tree.routes ≡ with_route to hop (own f x).tree.routes → p.tree.before ≡ (own f x).tree.routes → Leads w s prepares prepared (with_half f p x.ended (Some (begun.Update f k)) x)
+    ready : (k : Pending) (p : PausedRoutes) (what : machine.Stores) → IsTokenOf k p.live → HasRoom w f (suc s.ended) → MayStore w s.ended (w.changed s.ended) what → IsAt w f (begun_with what s) p → p.tree.routes ≡ with_route to hop (own f x).tree.routes → p.tree.before ≡ (own f x).tree.routes → StepLeads w s prepares prepared (with_half f p x.ended (Some (begun.Update f k)) x)
     ready k p what token room may at routes before =
         let t : State = begun_with what s in (
           t,
@@ -169,7 +169,7 @@ module _ (w : World) (s : State) (x : Stepper) (quiet : x.begun ≡ None) (h : I
         few_held cursor k.0 k.1.held
 
     -- as the call ensures
-    pub takes_in : (p : PausedRoutes) (r : Result Pending NotReady) → Readied (own f x) to hop p r → IfOk (said_of f x.ended r) (λ row. Leads w s prepares (row_as row) (with_half f p x.ended (begun_of f r) x))
+    pub takes_in : (p : PausedRoutes) (r : Result Pending NotReady) → Readied (own f x) to hop p r → IfOk (said_of f x.ended r) (λ row. StepLeads w s prepares (step_row_as row) (with_half f p x.ended (begun_of f r) x))
     takes_in p (Ok k) q = let b = q.begins w f s half.at is_next in ready k p b.0 q.token (q.fits w f s half.at is_next) b.1 b.2 q.routes q.before
     takes_in p (Err why.Memory) q = tt
     takes_in p (Err (why.TooMuch t)) q = tt
@@ -186,9 +186,9 @@ module _ (w : World) (s : State) (x : Stepper) (quiet : x.begun ≡ None) (h : I
     stops_in p (Err (why.Pinned need cursor arena largest)) q = tt
 
 -- ---- as the function says it
-module _ (x : Stepper) (f : Family) (to : Prefix) (hop : ℕ) (quiet : x.begun ≡ None) (next : x.ended < length x.turns.items) (turn : turn_at x.ended (map turn_as x.turns.items) ≡ Some (to, hop)) (fam : to.family ≡ f) (p : PausedRoutes) where
+module _ (x : Stepper) (f : Family) (to : Prefix) (hop : ℕ) (quiet : x.begun ≡ None) (next : x.ended < length x.turns.items) (turn : turn_at x.ended (map step_turn_as x.turns.items) ≡ Some (to, hop)) (fam : to.family ≡ f) (p : PausedRoutes) where
   abbrev Takes_all : Result Row StepError → Stepper → Type 0
-  Takes_all r y = IfOk r (λ row. (w : World) (s : State) → IsStepper w s x → Leads w s prepares (row_as row) y)
+  Takes_all r y = IfOk r (λ row. (w : World) (s : State) → IsStepper w s x → StepLeads w s prepares (step_row_as row) y)
 
   abbrev Stops_all : Result Row StepError → Stepper → Type 0
   Stops_all r y = IfErr r (λ e. (w : World) (s : State) → IsStepper w s x → IsStop w s e × IsStepper w s y)

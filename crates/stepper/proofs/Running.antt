@@ -4,22 +4,22 @@ use Rattle.std.specs.Prelude.{Result, Ok, Err, IfErr}
 use Rattle.std.specs.Result.{IsErrAnd}
 use Rattle.std.specs.List.{AllByRecursion}
 use Rattle.std.proofs.lemmas.List.{map-append, take_more}
-use Rattle.step_model.specs.Script.{Step, opens, goes, prepares, stores, ends, cancels}
-use Rattle.step_model.specs.Rows.{StepRow}
-use Rattle.step_model.specs.Machine.{World, State, Takes, Runs, ComesTo, IsHopsFull, IsTrieFull, at_first}
+use Rattle.step_script.specs.Script.{Step, opens, goes, prepares, stores, ends, cancels}
+use Rattle.step_script.specs.Rows.{StepRow}
+use Rattle.step_script.specs.Machine.{World, State, Takes, Runs, ComesTo, IsHopsFull, IsTrieFull, at_first}
 use Rattle.step_script.specs.declared.row.Row.{Row}
-use Rattle.step_script.specs.RowViews.{row_as}
+use Rattle.step_script.specs.RowViews.{step_row_as}
 use Rattle.step_script.specs.declared.step.Step as code_step
 use Rattle.step_script.specs.Steps.{step_as}
 use Rattle.stepper.specs.declared.error.StepError.{StepError}
 use Rattle.stepper.specs.declared.error.StepError.TheVariants as error
 use Rattle.stepper.specs.declared.stepper.Stepper.{Stepper}
-use Rattle.stepper.specs.Runs.{IsStepper, IsAnywhere, IsPrinted, IsStop, StopsBy, EndsBy}
-use Rattle.stepper.specs.Calls.{Leads}
+use Rattle.stepper.specs.Runs.{IsStepper, IsAnywhere, IsPrinted, IsStop, StopsBy, StepsEndBy}
+use Rattle.stepper.specs.Calls.{StepLeads}
 
 -- ---- how far a run has come
 abbrev pub Going : Stepper → List code_step.Step → ℕ → List Row → Stepper → Type 0
-Going old script i rows x = (w : World) → IsStepper w at_first old → (t : State) × Runs w at_first (map step_as (take i script)) (map row_as rows) t × IsStepper w t x
+Going old script i rows x = (w : World) → IsStepper w at_first old → (t : State) × Runs w at_first (map step_as (take i script)) (map step_row_as rows) t × IsStepper w t x
 
 no_steps : (w : World) (s : State) → Runs w s [] [] s
 unfolding Runs
@@ -37,12 +37,12 @@ one_more w s (x ∷ steps) (y ∷ rows) t step row u r take = (r.0, r.1, one_mor
 comes : (w : World) (front more : List Step) (rows : List StepRow) (s : State) (P : State → Type 0) → Runs w at_first front rows s → P s → ComesTo w (front ++ prepares ∷ more) P
 comes w front more rows s P r p = (front, more, rows, s, refl, r, p)
 
-stop_comes : (w : World) (front more : List Step) (rows : List StepRow) (s : State) (e : StepError) → Runs w at_first front rows s → IsStop w s e → EndsBy w (front ++ prepares ∷ more) e
+stop_comes : (w : World) (front more : List Step) (rows : List StepRow) (s : State) (e : StepError) → Runs w at_first front rows s → IsStop w s e → StepsEndBy w (front ++ prepares ∷ more) e
 stop_comes w front more rows s (error.HopsFull n) r stop = comes w front more rows s (λ (u : State). IsHopsFull w u × (n ≡ suc u.ended)) r stop
 stop_comes w front more rows s (error.TrieFull n f t) r stop = comes w front more rows s (λ (u : State). IsTrieFull w u f t.arena t.need t.have × (n ≡ suc u.ended)) r stop
 stop_comes w front more rows s error.NoMemory r stop = tt
 
-ends_at : (w : World) (front more : List Step) (rows : List StepRow) (s : State) (step : Step) (e : StepError) → Runs w at_first front rows s → StopsBy w s step e → EndsBy w (front ++ step ∷ more) e
+ends_at : (w : World) (front more : List Step) (rows : List StepRow) (s : State) (step : Step) (e : StepError) → Runs w at_first front rows s → StopsBy w s step e → StepsEndBy w (front ++ step ∷ more) e
 ends_at w front more rows s (opens a) e r stop = absurd stop
 ends_at w front more rows s (goes c) e r stop = absurd stop
 ends_at w front more rows s prepares e r stop = stop_comes w front more rows s e r stop
@@ -63,18 +63,18 @@ parted (y ∷ script) zero x less e = (map step_as script, ap (λ (z : code_step
 parted (y ∷ script) (suc i) x less e = let p = parted script i x (omega (arith, less)) e in (p.0, ap (λ (L : List Step). step_as y ∷ L) p.1)
 
 pub going_first : (x : Stepper) (script : List code_step.Step) (rows : List Row) → rows ≡ [] → Going x script 0 rows x
-going_first x script rows none w h = (at_first, subst (λ (L : List Row). Runs w at_first [] (map row_as L) at_first) (sym none) (no_steps w at_first), h)
+going_first x script rows none w h = (at_first, subst (λ (L : List Row). Runs w at_first [] (map step_row_as L) at_first) (sym none) (no_steps w at_first), h)
 
-pub going_on : (old x y : Stepper) (script : List code_step.Step) (i : ℕ) (rows more : List Row) (step : code_step.Step) (row : Row) → i < length script → step ≡ get_or script i step → more ≡ rows ++ row ∷ [] → ((w : World) (s : State) → IsStepper w s x → Leads w s (step_as step) (row_as row) y) → Going old script i rows x → Going old script (i + 1) more y
+pub going_on : (old x y : Stepper) (script : List code_step.Step) (i : ℕ) (rows more : List Row) (step : code_step.Step) (row : Row) → i < length script → step ≡ get_or script i step → more ≡ rows ++ row ∷ [] → ((w : World) (s : State) → IsStepper w s x → StepLeads w s (step_as step) (step_row_as row) y) → Going old script i rows x → Going old script (i + 1) more y
 going_on old x y script i rows more step row less e new takes so_far w h =
     let g = so_far w h in
     let l = takes w g.0 g.2 in
     let steps : map step_as (take (i + 1) script) ≡ map step_as (take i script) ++ step_as step ∷ [] = ap (map step_as) (take_more script i step less ∙ ap (λ (z : code_step.Step). take i script ++ z ∷ []) (sym e)) ∙ map-append step_as (take i script) (step ∷ []) in
-    let told : map row_as more ≡ map row_as rows ++ row_as row ∷ [] = ap (map row_as) new ∙ map-append row_as rows (row ∷ []) in
-    (l.0, subst (λ (L : List Step). Runs w at_first L (map row_as more) l.0) (sym steps) (subst (λ (L : List StepRow). Runs w at_first (map step_as (take i script) ++ step_as step ∷ []) L l.0) (sym told) (one_more w at_first (map step_as (take i script)) (map row_as rows) g.0 (step_as step) (row_as row) l.0 g.1 l.1)), l.2)
+    let told : map step_row_as more ≡ map step_row_as rows ++ step_row_as row ∷ [] = ap (map step_row_as) new ∙ map-append step_row_as rows (row ∷ []) in
+    (l.0, subst (λ (L : List Step). Runs w at_first L (map step_row_as more) l.0) (sym steps) (subst (λ (L : List StepRow). Runs w at_first (map step_as (take i script) ++ step_as step ∷ []) L l.0) (sym told) (one_more w at_first (map step_as (take i script)) (map step_row_as rows) g.0 (step_as step) (step_row_as row) l.0 g.1 l.1)), l.2)
 
-pub went : (old x : Stepper) (script : List code_step.Step) (i : ℕ) (rows : List Row) → length script ≤ i → Going old script i rows x → (w : World) → IsStepper w at_first old → (t : State) × Runs w at_first (map step_as script) (map row_as rows) t × IsStepper w t x
-went old x script i rows all so_far w h = let g = so_far w h in (g.0, subst (λ (L : List code_step.Step). Runs w at_first (map step_as L) (map row_as rows) g.0) (whole script i all) g.1, g.2)
+pub went : (old x : Stepper) (script : List code_step.Step) (i : ℕ) (rows : List Row) → length script ≤ i → Going old script i rows x → (w : World) → IsStepper w at_first old → (t : State) × Runs w at_first (map step_as script) (map step_row_as rows) t × IsStepper w t x
+went old x script i rows all so_far w h = let g = so_far w h in (g.0, subst (λ (L : List code_step.Step). Runs w at_first (map step_as L) (map step_row_as rows) g.0) (whole script i all) g.1, g.2)
   where
     whole : (script : List code_step.Step) (i : ℕ) → length script ≤ i → take i script ≡ script
     whole [] zero all = refl
@@ -82,15 +82,15 @@ went old x script i rows all so_far w h = let g = so_far w h in (g.0, subst (λ 
     whole (y ∷ script) zero all = absurd (omega (arith, all))
     whole (y ∷ script) (suc i) all = ap (λ (L : List code_step.Step). y ∷ L) (whole script i (omega (arith, all)))
 
-pub stopped : (old x y : Stepper) (script : List code_step.Step) (i : ℕ) (rows : List Row) (step : code_step.Step) (e : StepError) → i < length script → step ≡ get_or script i step → ((w : World) (s : State) → IsStepper w s x → StopsBy w s (step_as step) e × IsStepper w s y) → Going old script i rows x → (w : World) → IsStepper w at_first old → EndsBy w (map step_as script) e × IsAnywhere y
+pub stopped : (old x y : Stepper) (script : List code_step.Step) (i : ℕ) (rows : List Row) (step : code_step.Step) (e : StepError) → i < length script → step ≡ get_or script i step → ((w : World) (s : State) → IsStepper w s x → StopsBy w s (step_as step) e × IsStepper w s y) → Going old script i rows x → (w : World) → IsStepper w at_first old → StepsEndBy w (map step_as script) e × IsAnywhere y
 stopped old x y script i rows step e less is stops so_far w h =
     let g = so_far w h in
     let p = parted script i step less is in
     let z = stops w g.0 g.2 in
-    (subst (λ (L : List Step). EndsBy w L e) (sym p.1) (ends_at w (map step_as (take i script)) p.0 (map row_as rows) g.0 (step_as step) e g.1 z.0), (w, g.0, z.1))
+    (subst (λ (L : List Step). StepsEndBy w L e) (sym p.1) (ends_at w (map step_as (take i script)) p.0 (map step_row_as rows) g.0 (step_as step) e g.1 z.0), (w, g.0, z.1))
 
 -- memory ran out for a row
-pub no_memory : (old x y : Stepper) (script : List code_step.Step) (i : ℕ) (rows : List Row) (step : Step) (row : StepRow) → ((w : World) (s : State) → IsStepper w s x → Leads w s step row y) → Going old script i rows x → (w : World) → IsStepper w at_first old → Unit {0} × IsAnywhere y
+pub no_memory : (old x y : Stepper) (script : List code_step.Step) (i : ℕ) (rows : List Row) (step : Step) (row : StepRow) → ((w : World) (s : State) → IsStepper w s x → StepLeads w s step row y) → Going old script i rows x → (w : World) → IsStepper w at_first old → Unit {0} × IsAnywhere y
 no_memory old x y script i rows step row takes so_far w h =
     let g = so_far w h in
     let l = takes w g.0 g.2 in

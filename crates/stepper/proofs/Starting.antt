@@ -18,16 +18,16 @@ use Rattle.fib_addr.specs.declared.prefix.Prefix as code_prefix
 use Rattle.fib_addr.specs.declared.entry.Hop as code_hop
 use Rattle.fib_addr.specs.Answers.{all_answers}
 use Rattle.orig_tree.specs.Views.{InPlace}
-use Rattle.poptrie_build.specs.Need.{told}
+use Rattle.poptrie_build.specs.Need.{need_in_u64}
 use Rattle.poptrie_build.specs.Tries.{node_need, leaf_need}
 use Rattle.poptrie_build.specs.declared.filling.TrieFull.{TrieFull}
 use Rattle.route_tries.specs.Sizes.{Shortage, short_or, shortage, first_short, sizes_as}
 use Rattle.route_tries.specs.declared.sizes.Sizes.{Sizes}
-use Rattle.step_model.specs.Machine.{World, at_first}
-use Rattle.step_model.specs.Turns.{entries_in}
+use Rattle.step_script.specs.Machine.{World, at_first}
+use Rattle.step_script.specs.Turns.{entries_in}
 use Rattle.paused_routes.specs.declared.routes.PausedRoutes.{PausedRoutes}
 use Rattle.paused_routes.specs.Paused.{IsAt}
-use Rattle.paused_routes.specs.Calls.{IsWorldOf, IsTooMany}
+use Rattle.paused_routes.specs.Calls.{IsWorldOf, IsTrieTooSmall}
 use Rattle.paused_routes.proofs.Alike.{node_need_alike, leaf_need_alike}
 use Rattle.stepper.specs.Runs.{IsStart, IsHalf, IsStepper}
 use Rattle.stepper.specs.Calls.{HasPlaces}
@@ -37,10 +37,10 @@ use Rattle.stepper.proofs.Worlds.{answers_of, is_world}
 pub laid : (f : Family) (L : Entries) → InPlace L → in_order (entries_in f L) ≡ entries_in f L
 laid f L p = in_order_again (entries_in f L) (sorted_filter prefix_cmp (λ e. same_family f e.0.family) L p.1)
 
-pub roomy : (f : Family) (z : Sizes) (L M : Entries) (g : Family) (t : TrieFull) → HasPlaces f z L → g ≡ f → M ≡ entries_in f L → IsTooMany g z.direct z.nodes z.leaves M t → ⊥
-roomy f z L M g t room fam is much = none (subst (λ (E : Entries). IsTooMany f z.direct z.nodes z.leaves E t) is (subst (λ (h : Family). IsTooMany h z.direct z.nodes z.leaves M t) fam much))
+pub roomy : (f : Family) (z : Sizes) (L M : Entries) (g : Family) (t : TrieFull) → HasPlaces f z L → g ≡ f → M ≡ entries_in f L → IsTrieTooSmall g z.direct z.nodes z.leaves M t → ⊥
+roomy f z L M g t room fam is much = none (subst (λ (E : Entries). IsTrieTooSmall f z.direct z.nodes z.leaves E t) is (subst (λ (h : Family). IsTrieTooSmall h z.direct z.nodes z.leaves M t) fam much))
   where
-    none : IsTooMany f z.direct z.nodes z.leaves (entries_in f L) t → ⊥
+    none : IsTrieTooSmall f z.direct z.nodes z.leaves (entries_in f L) t → ⊥
     none (inl a) = let e = node_need_alike f z.direct (entries_in f L) L (answers_of f L) in omega (arith, room.0, e, a.2, a.3)
     none (inr a) = let e = leaf_need_alike f z.direct (entries_in f L) L (answers_of f L) in omega (arith, room.1, e, a.3, a.4)
 
@@ -54,7 +54,7 @@ not_less a b e = grind (arith, nat_tests)
 enough : (arena need have : ℕ) (later : Option Shortage) → short_or arena need have later ≡ None → (need ≤ have) × (later ≡ None)
 enough arena need have later e = by (nat_lt have need) refl e
   where
-    by : (b : Bool) → nat_lt have need ≡ b → cond b (Some (record { arena = arena; need = told need; have = have })) later ≡ None → (need ≤ have) × (later ≡ None)
+    by : (b : Bool) → nat_lt have need ≡ b → cond b (Some (record { arena = arena; need = need_in_u64 need; have = have })) later ≡ None → (need ≤ have) × (later ≡ None)
     by true t e = absurd (cc)
     by false t e = (not_less have need t, e)
 

@@ -18,10 +18,10 @@ use Rattle.fib_addr.specs.Views.{prefix_as}
 use Rattle.fib_addr.specs.declared.prefix.Prefix as code_prefix
 use Rattle.fib_addr.specs.declared.entry.Hop as code_hop
 use Rattle.poptrie_set.specs.Prepares.{AgreeOutside}
-use Rattle.step_model.specs.Machine.{World, is_in}
-use Rattle.step_model.specs.Turns.{Turn, AreTurns, turn_at, turned, entries_in}
+use Rattle.step_script.specs.Machine.{World, changes_family}
+use Rattle.step_script.specs.Turns.{Turn, AreTurns, turn_at, turned, entries_in}
 use Rattle.paused_routes.specs.Paused.{IsWorld}
-use Rattle.stepper.specs.Runs.{turn_as}
+use Rattle.stepper.specs.Runs.{step_turn_as}
 
 -- ---- answers are told by the family's entries
 
@@ -41,7 +41,7 @@ match_of a L = ap (λ (T : Table). lpm T a.bits 0) (of_only a.family L)
 
 -- ---- what a turn does to a family's entries
 
-turned_elsewhere : (f : Family) (t : Turn) (L : Entries) → is_in f (option_map (λ x. x.0) t) ≡ false → turned f t L ≡ L
+turned_elsewhere : (f : Family) (t : Turn) (L : Entries) → changes_family f (option_map (λ x. x.0) t) ≡ false → turned f t L ≡ L
 turned_elsewhere f None L e = refl
 turned_elsewhere f (Some t) L e = ap (λ (b : Bool). cond b (with_route t.0 t.1 L) L) e
 
@@ -57,7 +57,7 @@ all_routed : (p : Prefix) (h : ℕ) (R : Entries) → IsPrefix p → AllByRecurs
 all_routed p zero R x r = all_cut (same_prefix p) IsPrefix R r
 all_routed p (suc h) R x r = all_put prefix_cmp IsPrefix R p (suc h) r x
 
-proper : (turns : List (Option (code_prefix.Prefix × code_hop.Hop))) (n : ℕ) (p : Prefix) (h : ℕ) → turn_at n (map turn_as turns) ≡ Some (p, h) → IsPrefix p
+proper : (turns : List (Option (code_prefix.Prefix × code_hop.Hop))) (n : ℕ) (p : Prefix) (h : ℕ) → turn_at n (map step_turn_as turns) ≡ Some (p, h) → IsPrefix p
 unfolding turn_at
 proper [] n p h e = absurd (cc)
 proper (None ∷ turns) zero p h e = absurd (cc)
@@ -75,15 +75,15 @@ all_turned f (Some t) L x all = by_test (same_family f t.0.family)
     by_test true = all_routed t.0 t.1 L (x t.0 t.1 refl) all
     by_test false = all
 
-module _ (w : World) (turns : List (Option (code_prefix.Prefix × code_hop.Hop))) (are : AreTurns w (map turn_as turns)) where
+module _ (w : World) (turns : List (Option (code_prefix.Prefix × code_hop.Hop))) (are : AreTurns w (map step_turn_as turns)) where
   -- the turn of the next event after n
   abbrev at : ℕ → Turn
-  at n = turn_at n (map turn_as turns)
+  at n = turn_at n (map step_turn_as turns)
 
-  pub elsewhere_next : (f : Family) (n : ℕ) → is_in f (w.changed n) ≡ false → entries_in f (w.routes (suc n)) ≡ entries_in f (w.routes n)
-  elsewhere_next f n e = (are.each n).routes f ∙ turned_elsewhere f (at n) (entries_in f (w.routes n)) (ap (is_in f) (sym (are.each n).changed) ∙ e)
+  pub elsewhere_next : (f : Family) (n : ℕ) → changes_family f (w.changed n) ≡ false → entries_in f (w.routes (suc n)) ≡ entries_in f (w.routes n)
+  elsewhere_next f n e = (are.each n).routes f ∙ turned_elsewhere f (at n) (entries_in f (w.routes n)) (ap (changes_family f) (sym (are.each n).changed) ∙ e)
 
-  pub here_next : (f : Family) (n : ℕ) (p : Prefix) (h : ℕ) → turn_at n (map turn_as turns) ≡ Some (p, h) → p.family ≡ f → entries_in f (w.routes (suc n)) ≡ with_route p h (entries_in f (w.routes n))
+  pub here_next : (f : Family) (n : ℕ) (p : Prefix) (h : ℕ) → turn_at n (map step_turn_as turns) ≡ Some (p, h) → p.family ≡ f → entries_in f (w.routes (suc n)) ≡ with_route p h (entries_in f (w.routes n))
   here_next f n p h e fam = (are.each n).routes f ∙ turned_here f (at n) p h (entries_in f (w.routes n)) e fam
 
   module _ (f : Family) (first : AllByRecursion IsPrefix (keys_of (entries_in f (w.routes 0)))) where

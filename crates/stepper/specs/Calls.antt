@@ -7,9 +7,9 @@ use Rattle.poptrie_update.specs.declared.pending.Pending.{Pending}
 use Rattle.poptrie_update.specs.declared.pending.NotReady.{NotReady}
 use Rattle.poptrie_update.specs.declared.pending.NotReady.TheVariants as why
 use Rattle.route_tries.specs.declared.sizes.Sizes.{Sizes}
-use Rattle.step_model.specs.Script.{Step}
-use Rattle.step_model.specs.Rows.{StepRow, printed_number}
-use Rattle.step_model.specs.Machine.{World, State, Takes, changes_before}
+use Rattle.step_script.specs.Script.{Step}
+use Rattle.step_script.specs.Rows.{StepRow, printed_number}
+use Rattle.step_script.specs.Machine.{World, State, Takes, changes_before}
 use Rattle.step_script.specs.declared.row.Row.{Row}
 use Rattle.step_script.specs.declared.row.Row.TheVariants as row
 use Rattle.paused_routes.specs.declared.routes.PausedRoutes.{PausedRoutes}
@@ -26,8 +26,8 @@ abbrev pub HasPlaces : Family → Sizes → Entries → Type 0
 HasPlaces f z L = (node_need f z.direct L ≤ 2 ^ z.nodes) × (leaf_need f z.direct L ≤ 2 ^ z.leaves)
 
 -- the step may have this row, after which the stepper is in the state that follows
-abbrev pub Leads : World → State → Step → StepRow → Stepper → Type 0
-Leads w s step row x = (t : State) × Takes w s step row t × IsStepper w t x
+abbrev pub StepLeads : World → State → Step → StepRow → Stepper → Type 0
+StepLeads w s step row x = (t : State) × Takes w s step row t × IsStepper w t x
 
 -- in some state in which so few events changed the family's routes that one more is counted
 abbrev pub IsEarly : PausedRoutes → Type 0

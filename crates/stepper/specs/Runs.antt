@@ -10,10 +10,10 @@ use Rattle.fib_addr.specs.declared.prefix.Prefix as code_prefix
 use Rattle.fib_addr.specs.declared.entry.Hop as code_hop
 use Rattle.poptrie_update.specs.Pendings.{IsTokenOf}
 use Rattle.route_tries.specs.declared.sizes.Sizes.{Sizes}
-use Rattle.step_model.specs.Script.{Step, opens, goes, prepares, stores, ends, cancels}
-use Rattle.step_model.specs.Machine as machine
-use Rattle.step_model.specs.Machine.{World, State, words, is_in, IsHopsFull, IsTrieFull, ComesTo, at_first}
-use Rattle.step_model.specs.Turns.{Turn, AreTurns, entries_in}
+use Rattle.step_script.specs.Script.{Step, opens, goes, prepares, stores, ends, cancels}
+use Rattle.step_script.specs.Machine as machine
+use Rattle.step_script.specs.Machine.{World, State, words, changes_family, IsHopsFull, IsTrieFull, ComesTo, at_first}
+use Rattle.step_script.specs.Turns.{Turn, AreTurns, entries_in}
 use Rattle.paused_routes.specs.declared.routes.PausedRoutes.{PausedRoutes}
 use Rattle.paused_routes.specs.Paused.{IsAt, is_own, shown_after}
 use Rattle.stepper.specs.declared.begun.Begun.{Begun}
@@ -23,8 +23,8 @@ use Rattle.stepper.specs.declared.error.StepError.TheVariants as error
 use Rattle.stepper.specs.declared.stepper.Stepper.{Stepper}
 
 -- what an event does
-abbrev pub turn_as : Option (code_prefix.Prefix × code_hop.Hop) → Turn
-turn_as turn = option_map (λ t. (prefix_as t.0, t.1.0)) turn
+abbrev pub step_turn_as : Option (code_prefix.Prefix × code_hop.Hop) → Turn
+step_turn_as turn = option_map (λ t. (prefix_as t.0, t.1.0)) turn
 
 -- ---- before the first step
 -- the world of these routes, turns and hops
@@ -33,7 +33,7 @@ pub record IsStart (w : World) (z : Sizes) (L : Entries) (does : List (Option (c
   pub direct : w.direct ≡ z.direct
   pub nodes : w.nodes ≡ z.nodes
   pub leaves : w.leaves ≡ z.leaves
-  pub turns : AreTurns w (map turn_as does)
+  pub turns : AreTurns w (map step_turn_as does)
   pub hops : numbers.list ≡ w.hops
   pub full : is_full ≡ w.is_full
 
@@ -45,18 +45,18 @@ pub record IsHalf (w : World) (f : Family) (s : State) (p : PausedRoutes) : Type
   pub before : is_own w f s.ended s.begun ≡ true → p.tree.before ≡ entries_in f (w.routes s.ended)
 
 -- the routes of a family
-abbrev pub half_of : Family → PausedRoutes → PausedRoutes → PausedRoutes
-half_of V4 v4 v6 = v4
-half_of V6 v4 v6 = v6
+abbrev pub family_half : Family → PausedRoutes → PausedRoutes → PausedRoutes
+family_half V4 v4 v6 = v4
+family_half V6 v4 v6 = v6
 
 -- The event that is begun: none; one that changes no chosen hop, which has no store; or an update of its family, with its token.
-abbrev pub IsEvent : World → ℕ → PausedRoutes → PausedRoutes → Begun → machine.Begun → Type 0
-IsEvent w n v4 v6 begun.Nothing b = (w.changed n ≡ None) × (b ≡ record { stores = words []; made = 0 })
-IsEvent w n v4 v6 (begun.Update f pending) b = (is_in f (w.changed n) ≡ true) × IsTokenOf pending (half_of f v4 v6).live
+abbrev pub IsBegunEvent : World → ℕ → PausedRoutes → PausedRoutes → Begun → machine.Begun → Type 0
+IsBegunEvent w n v4 v6 begun.Nothing b = (w.changed n ≡ None) × (b ≡ record { stores = words []; made = 0 })
+IsBegunEvent w n v4 v6 (begun.Update f pending) b = (changes_family f (w.changed n) ≡ true) × IsTokenOf pending (family_half f v4 v6).live
 
 abbrev pub IsBegunAs : World → ℕ → PausedRoutes → PausedRoutes → Option Begun → Option machine.Begun → Type 0
 IsBegunAs w n v4 v6 None None = Unit {0}
-IsBegunAs w n v4 v6 (Some e) (Some b) = (n < w.events) × IsEvent w n v4 v6 e b
+IsBegunAs w n v4 v6 (Some e) (Some b) = (n < w.events) × IsBegunEvent w n v4 v6 e b
 IsBegunAs w n v4 v6 None (Some b) = ⊥
 IsBegunAs w n v4 v6 (Some e) None = ⊥
 
@@ -65,7 +65,7 @@ IsBegunAs w n v4 v6 (Some e) None = ⊥
 pub record IsStepper (w : World) (s : State) (x : Stepper) : Type 0 where
   pub v4 : IsHalf w V4 s x.v4
   pub v6 : IsHalf w V6 s x.v6
-  pub turns : AreTurns w (map turn_as x.turns.items)
+  pub turns : AreTurns w (map step_turn_as x.turns.items)
   pub hops : x.hops.list ≡ w.hops
   pub full : x.is_full ≡ w.is_full
   pub ended : x.ended ≡ s.ended
@@ -109,7 +109,7 @@ StopsBy w s ends e = ⊥
 StopsBy w s cancels e = ⊥
 
 -- the steps come to such a prepare, or memory runs out
-abbrev pub EndsBy : World → List Step → StepError → Type 0
-EndsBy w steps (error.HopsFull n) = ComesTo w steps (λ s. IsHopsFull w s × (n ≡ suc s.ended))
-EndsBy w steps (error.TrieFull n f t) = ComesTo w steps (λ s. IsTrieFull w s f t.arena t.need t.have × (n ≡ suc s.ended))
-EndsBy w steps error.NoMemory = Unit {0}
+abbrev pub StepsEndBy : World → List Step → StepError → Type 0
+StepsEndBy w steps (error.HopsFull n) = ComesTo w steps (λ s. IsHopsFull w s × (n ≡ suc s.ended))
+StepsEndBy w steps (error.TrieFull n f t) = ComesTo w steps (λ s. IsTrieFull w s f t.arena t.need t.have × (n ≡ suc s.ended))
+StepsEndBy w steps error.NoMemory = Unit {0}

@@ -3,9 +3,9 @@
 ghost use Rattle.std.specs.Prelude.{◌≡◌, ◌<◌};
 ghost use Rattle.table_model.specs.declared.family.Family.{Family};
 ghost use Rattle.fib_addr.specs.Views.{addr_as};
-ghost use Rattle.step_model.specs.Rows.{printed_number};
-ghost use Rattle.step_model.specs.Machine.{World, State, Opens, Goes};
-ghost use Rattle.step_script.specs.RowViews.{row_as};
+ghost use Rattle.step_script.specs.Rows.{printed_number};
+ghost use Rattle.step_script.specs.Machine.{World, State, Opens, Goes};
+ghost use Rattle.step_script.specs.RowViews.{step_row_as};
 ghost use Rattle.paused_routes.specs.Paused.{IsAt, IsSomewhere};
 
 use fib_addr::{Addr, Family, HopTable};
@@ -28,7 +28,7 @@ pub(crate) fn open(routes: &mut PausedRoutes, addr: &Addr) -> Row
     requires family { addr.now.family ≡ routes.old.live.selected.family }
     requires somewhere { IsSomewhere routes.old }
     ensures opens { (w : World) (f : Family) (s : State) → IsAt w f s routes.old → (t : State)
-        × Opens s (addr_as addr.now) (row_as result) t × IsAt w f t routes.new }
+        × Opens s (addr_as addr.now) (step_row_as result) t × IsAt w f t routes.new }
     ensures tree { routes.new.tree ≡ routes.old.tree }
     ensures live { routes.new.live ≡ routes.old.live }
 {
@@ -43,7 +43,7 @@ pub(crate) fn go(routes: &mut PausedRoutes, hops: &HopTable, family: Family, num
     requires few { number < 64 }
     requires somewhere { IsSomewhere routes.old }
     ensures goes { (w : World) (s : State) → hops.now.list ≡ w.hops → IsAt w family s routes.old
-        → (t : State) × Goes w s family number (row_as result) t × IsAt w family t routes.new }
+        → (t : State) × Goes w s family number (step_row_as result) t × IsAt w family t routes.new }
     ensures tree { routes.new.tree ≡ routes.old.tree }
     ensures live { routes.new.live ≡ routes.old.live }
 {

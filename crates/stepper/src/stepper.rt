@@ -3,10 +3,10 @@
 ghost use Rattle.std.specs.Prelude.{◌≡◌, map, IfOk, IfErr};
 ghost use Rattle.fib_addr.specs.Views.{entry_as};
 ghost use Rattle.orig_tree.specs.Views.{InPlace};
-ghost use Rattle.step_model.specs.Machine.{World, at_first};
-ghost use Rattle.step_model.specs.Rows.{stored};
-ghost use Rattle.step_model.specs.Turns.{entries_in};
-ghost use Rattle.step_script.specs.RowViews.{row_as};
+ghost use Rattle.step_script.specs.Machine.{World, at_first};
+ghost use Rattle.step_script.specs.Rows.{stored};
+ghost use Rattle.step_script.specs.Turns.{entries_in};
+ghost use Rattle.step_script.specs.RowViews.{step_row_as};
 ghost use Rattle.paused_routes.specs.Paused.{IsAt};
 ghost use Rattle.paused_routes.specs.Calls.{IsWorldOf, store_row};
 ghost use Rattle.stepper.specs.Calls.{HasPlaces};
@@ -56,7 +56,7 @@ fn routes_of(
 
 /// The row of a store.
 fn row_of_store(is_made: bool) -> Row
-    ensures { row_as result ≡ store_row is_made }
+    ensures { step_row_as result ≡ store_row is_made }
 {
     if is_made { Row::Stored } else { Row::Nothing }
 }
@@ -68,15 +68,15 @@ impl Stepper {
     ghost use Rattle.orig_tree.specs.Views.{InPlace};
     ghost use Rattle.poptrie_update.specs.Pendings.{IsTokenOf};
     ghost use Rattle.route_tries.specs.Sizes.{shortage, sizes_as};
-    ghost use Rattle.step_model.specs.Script.{opens, goes, prepares, stores, ends, cancels};
-    ghost use Rattle.step_model.specs.Machine.{World, State, Runs, at_first};
-    ghost use Rattle.step_model.specs.Turns.{turn_at};
-    ghost use Rattle.step_script.specs.RowViews.{row_as};
+    ghost use Rattle.step_script.specs.Script.{opens, goes, prepares, stores, ends, cancels};
+    ghost use Rattle.step_script.specs.Machine.{World, State, Runs, at_first};
+    ghost use Rattle.step_script.specs.Turns.{turn_at};
+    ghost use Rattle.step_script.specs.RowViews.{step_row_as};
     ghost use Rattle.step_script.specs.Steps.{step_as};
     ghost use Rattle.paused_routes.specs.Calls.{end_row, cancel_row};
-    ghost use Rattle.stepper.specs.Runs.{IsStart, IsStepper, IsAnywhere, IsAtFirst, IsPrinted, ArePrinted, IsStop, StopsBy, EndsBy, half_of, turn_as};
+    ghost use Rattle.stepper.specs.Runs.{IsStart, IsStepper, IsAnywhere, IsAtFirst, IsPrinted, ArePrinted, IsStop, StopsBy, StepsEndBy, family_half, step_turn_as};
     ghost use Rattle.stepper.specs.declared.begun.Begun.TheVariants.{Update as update};
-    ghost use Rattle.stepper.specs.Calls.{Leads, begun_of, said_of, IsFewIn, back_of, ended_of};
+    ghost use Rattle.stepper.specs.Calls.{StepLeads, begun_of, said_of, IsFewIn, back_of, ended_of};
 
     /// Makes both families' trees and tries of the routes, which both stand in the order of prefixes.
     ///
@@ -114,7 +114,7 @@ impl Stepper {
     fn open(&mut self, addr: &Addr) -> Row
         requires { IsAnywhere self.old }
         ensures { (w : World) (s : State) → IsStepper w s self.old
-            → Leads w s (opens (addr_as addr.now)) (row_as result) self.new }
+            → StepLeads w s (opens (addr_as addr.now)) (step_row_as result) self.new }
     {
         match addr.family {
             Family::V4 => open(&mut self.v4, addr),
@@ -127,7 +127,7 @@ impl Stepper {
         requires few { number < 128 }
         requires somewhere { IsAnywhere self.old }
         ensures { (w : World) (s : State) → IsStepper w s self.old
-            → Leads w s (goes number) (row_as result) self.new }
+            → StepLeads w s (goes number) (step_row_as result) self.new }
     {
         if number < 64 {
             go(&mut self.v4, &self.hops, Family::V4, number)
@@ -148,7 +148,7 @@ impl Stepper {
     fn prepare(&mut self) -> Result<Row, StepError>
         requires { IsAnywhere self.old }
         ensures takes { IfOk result (λ row. (w : World) (s : State) → IsStepper w s self.old
-            → Leads w s prepares (row_as row) self.new) }
+            → StepLeads w s prepares (step_row_as row) self.new) }
         ensures stops { IfErr result (λ e. (w : World) (s : State) → IsStepper w s self.old
             → IsStop w s e × IsStepper w s self.new) }
     {
@@ -174,7 +174,7 @@ impl Stepper {
         requires none { length self.now.turns.items ≤ self.now.ended }
         requires somewhere { IsAnywhere self.now }
         ensures takes { IfOk result (λ row. (w : World) (s : State) → IsStepper w s self.now
-            → Leads w s prepares (row_as row) self.now) }
+            → StepLeads w s prepares (step_row_as row) self.now) }
         ensures stops { IfErr result (λ e. (w : World) (s : State) → IsStepper w s self.now
             → IsStop w s e) }
     {
@@ -188,11 +188,11 @@ impl Stepper {
     fn prepare_update(&mut self, prefix: &Prefix, hop: Hop) -> Result<Row, StepError>
         requires quiet { self.old.begun ≡ None }
         requires next { self.old.ended < length self.old.turns.items }
-        requires turn { turn_at self.old.ended (map turn_as self.old.turns.items)
+        requires turn { turn_at self.old.ended (map step_turn_as self.old.turns.items)
             ≡ Some (prefix_as prefix.now, hop.0) }
         requires somewhere { IsAnywhere self.old }
         ensures takes { IfOk result (λ row. (w : World) (s : State) → IsStepper w s self.old
-            → Leads w s prepares (row_as row) self.new) }
+            → StepLeads w s prepares (step_row_as row) self.new) }
         ensures stops { IfErr result (λ e. (w : World) (s : State) → IsStepper w s self.old
             → IsStop w s e × IsStepper w s self.new) }
     {
@@ -235,7 +235,7 @@ impl Stepper {
     fn store(&mut self) -> Row
         requires { IsAnywhere self.old }
         ensures { (w : World) (s : State) → IsStepper w s self.old
-            → Leads w s stores (row_as result) self.new }
+            → StepLeads w s stores (step_row_as result) self.new }
     {
         match &mut self.begun {
             None => Row::Nothing,
@@ -249,7 +249,7 @@ impl Stepper {
     fn end(&mut self) -> Row
         requires { IsAnywhere self.old }
         ensures { (w : World) (s : State) → IsStepper w s self.old
-            → Leads w s ends (row_as result) self.new }
+            → StepLeads w s ends (step_row_as result) self.new }
     {
         match self.begun.take() {
             None => Row::Nothing,
@@ -267,7 +267,7 @@ impl Stepper {
         requires somewhere { IsAnywhere (record self.old { begun = Some (update family pending) }) }
         ensures { (w : World) (s : State)
             → IsStepper w s (record self.old { begun = Some (update family pending) })
-            → Leads w s ends (row_as result) self.new }
+            → StepLeads w s ends (step_row_as result) self.new }
     {
         match family {
             Family::V4 => {
@@ -285,7 +285,7 @@ impl Stepper {
     fn is_over(&mut self, family: Family, over: Result<(), Pending>) -> Row
         requires quiet { self.old.begun ≡ None }
         requires next { self.old.ended < length self.old.turns.items }
-        ensures row { row_as result ≡ end_row over }
+        ensures row { step_row_as result ≡ end_row over }
         ensures begun { self.new ≡ record self.old {
           ended = ended_of self.old.ended over;
           begun = back_of family over;
@@ -307,7 +307,7 @@ impl Stepper {
     fn cancel(&mut self) -> Row
         requires { IsAnywhere self.old }
         ensures { (w : World) (s : State) → IsStepper w s self.old
-            → Leads w s cancels (row_as result) self.new }
+            → StepLeads w s cancels (step_row_as result) self.new }
     {
         match self.begun.take() {
             None => Row::Nothing,
@@ -322,7 +322,7 @@ impl Stepper {
         requires somewhere { IsAnywhere (record self.old { begun = Some (update family pending) }) }
         ensures { (w : World) (s : State)
             → IsStepper w s (record self.old { begun = Some (update family pending) })
-            → Leads w s cancels (row_as result) self.new }
+            → StepLeads w s cancels (step_row_as result) self.new }
     {
         match family {
             Family::V4 => {
@@ -339,7 +339,7 @@ impl Stepper {
     /// The event is forgotten, or the token of the family's update is handed back.
     fn is_cancelled(&mut self, family: Family, over: Result<(), Pending>) -> Row
         requires quiet { self.old.begun ≡ None }
-        ensures row { row_as result ≡ cancel_row over }
+        ensures row { step_row_as result ≡ cancel_row over }
         ensures begun { self.new ≡ record self.old { begun = back_of family over } }
     {
         match over {
@@ -361,7 +361,7 @@ impl Stepper {
         requires few { IsPrinted (step_as step.now) }
         requires somewhere { IsAnywhere self.old }
         ensures takes { IfOk result (λ row. (w : World) (s : State) → IsStepper w s self.old
-            → Leads w s (step_as step.now) (row_as row) self.new) }
+            → StepLeads w s (step_as step.now) (step_row_as row) self.new) }
         ensures stops { IfErr result (λ e. (w : World) (s : State) → IsStepper w s self.old
             → StopsBy w s (step_as step.now) e × IsStepper w s self.new) }
     {
@@ -384,9 +384,9 @@ impl Stepper {
         requires few { ArePrinted (map step_as script.now) }
         requires at_first { IsAtFirst self.old }
         ensures runs { IfOk result (λ rows. (w : World) → IsStepper w at_first self.old → (t : State)
-            × Runs w at_first (map step_as script.now) (map row_as rows.items) t × IsStepper w t self.new) }
+            × Runs w at_first (map step_as script.now) (map step_row_as rows.items) t × IsStepper w t self.new) }
         ensures stops { IfErr result (λ e. (w : World) → IsStepper w at_first self.old
-            → EndsBy w (map step_as script.now) e × IsAnywhere self.new) }
+            → StepsEndBy w (map step_as script.now) e × IsAnywhere self.new) }
     {
         let mut rows = Vec::new(alloc);
         for step in script {

@@ -1,9 +1,8 @@
 //! Certificates of four routes that tie, right ones and wrong ones.
 
 use cert_check::{CheckError, Differ, No, check, same};
-use cert_model::Row;
+use cert_model::{PackedRow, Row};
 use fib_addr::{Addr, Entry, Family, Hop, Prefix};
-use packed_rows::PackedRow;
 use std::alloc::{AllocError, Global};
 use std::test::Fail;
 

@@ -1,6 +1,6 @@
 //! Sets that meet, and sets that don't.
 
-use hop_sets::HopSet;
+use fib_addr::HopSet;
 use std::alloc::{AllocError, Global};
 
 /// The set of these hops, which are in order.

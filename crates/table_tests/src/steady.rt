@@ -2,9 +2,10 @@
 
 use crate::common::prefix;
 use fib_addr::{Addr, Entry, Hop, Prefix};
-use fib_delta::Change;
+use fib_delta::{
+    Change, put_entries_in_steady_order, put_event_in_steady_order, put_in_steady_order,
+};
 use std::alloc::{AllocError, Global};
-use steady_order::{put_entries_in_steady_order, put_event_in_steady_order, put_in_steady_order};
 
 /// A prefix of either family.
 #[derive(Clone, Copy)]

@@ -254,7 +254,7 @@ fn is_loaded(
         prefix: Prefix::whole(Family::V6),
         hop: Hop(9),
     })?;
-    let tree = Tree::load(alloc, Family::V4, &rows)?.enter_all(&rows)?;
+    let tree = Tree::load(alloc, Family::V4, &rows)?.insert_entries(&rows)?;
     Ok(
         are_rows(&tree.routes()?, due)
             && are_rows(&tree.entries()?, due)

@@ -1,7 +1,7 @@
 //! Texts and the first bad line of each, one text read whole, and the most hops.
 
-use cost_cert::{BadRow, PackedRow, PrintedError, Row, read_printed};
 use fib_addr::{Addr, Entry, Family, Hop, MOST_TEXT, Prefix, addr_text};
+use printed_text::{BadRow, PackedRow, PrintedError, Row, read_printed};
 use std::test::Fail;
 
 /// Texts, and the first line of each that is no row, with its why.

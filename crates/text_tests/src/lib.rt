@@ -2,13 +2,23 @@
 #![tactic(auto)]
 
 #[cfg(test)]
+mod candidates;
+#[cfg(test)]
 mod certs;
 #[cfg(test)]
+mod inputs;
+#[cfg(test)]
+mod judge;
+#[cfg(test)]
 mod report;
+#[cfg(test)]
+mod rov;
 #[cfg(test)]
 mod rows;
 #[cfg(test)]
 mod same;
+#[cfg(test)]
+mod save;
 #[cfg(test)]
 mod script;
 #[cfg(test)]

@@ -1,9 +1,9 @@
 //! Printed texts that are compared with the first.
 
-use cost_cert::Kind;
 use fib_addr::Addr;
 use fib_io::SureInputs;
 use fib_same::{Difference, compare_texts};
+use printed_text::Kind;
 use std::alloc::Global;
 use std::test::Fail;
 

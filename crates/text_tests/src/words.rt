@@ -1,7 +1,7 @@
 //! Words and what they ask for.
 
 use fib_words::{CommandWords, WordsError, read_words};
-use printed_model::Kind;
+use printed_text::Kind;
 use std::alloc::Global;
 use std::test::Fail;
 

@@ -182,8 +182,8 @@ is_bad (Some None) = true
 is_bad found = false
 
 -- Without AS_PATH the length is 0, and there is no origin. A list is bad where the first AS_PATH or the first NEXT_HOP isn't of its form: it has neither length nor origin nor next hop then.
-abbrev pub listed : Found → Listed
-listed found =
+abbrev pub listed_from : Found → Listed
+listed_from found =
     let bad = is_bad found.path || is_bad found.hop in
     record {
       path = if bad then no_path else unwrap_or (unwrap_or found.path None) no_path;
@@ -195,4 +195,4 @@ listed found =
 
 -- attributes to the end
 unfoldable pub attributes : Place → List ℕ → Result Listed Rule
-attributes place octets = until_end (attribute_at place) nothing_found octets >>= λ found. Ok (listed found)
+attributes place octets = until_end (attribute_at place) nothing_found octets >>= λ found. Ok (listed_from found)

@@ -5,3 +5,8 @@ pub mod Wire
 pub mod Path
 pub mod Attribute
 pub mod End
+pub mod Rib
+pub mod Update
+pub mod Input
+pub mod Reading
+pub mod Octets

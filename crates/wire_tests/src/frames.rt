@@ -1,9 +1,9 @@
 //! Two records in pieces of several sizes, a record that is given back, and inputs that are cut or have a Length over the
 //! limit.
 ghost use Rattle.std.specs.Prelude.{◌+◌, ◌<◌, ◌≤◌, length, OnOk};
-ghost use Rattle.mrt_frame.specs.Framing.{FramerIsUsedUp, framer_count, framer_left};
+ghost use Rattle.mrt_read.specs.Framing.{FramerIsUsedUp, framer_count, framer_left};
 
-use mrt_frame::{Framer, Malformed};
+use mrt_read::{Framer, Malformed};
 use std::alloc::Global;
 use std::test::Fail;
 use wire_model::Rule;

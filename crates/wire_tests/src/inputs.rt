@@ -2,10 +2,9 @@
 
 use fib_io::MemInputs;
 use fib_prefix::{Addr, Event, Family, Peer, Prefix, Via};
-use mrt_read::Malformed;
+use mrt_read::{Malformed, WholeError, read_all_events};
 use std::alloc::{AllocError, Global};
 use std::test::Fail;
-use whole_input::{WholeError, read_all_events};
 use wire_model::Rule;
 
 /// A peer table of one peer, and its route of 10.0.0.0/8.

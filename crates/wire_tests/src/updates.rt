@@ -1,7 +1,7 @@
 //! An UPDATE of both families with each kind of events, also with a malformed path; one with a path identifier; and messages that aren't as long as they say.
 
-use bgp_update::{Refusal, read_message};
 use fib_prefix::{Addr, Event, Family, Peer, Prefix, Via};
+use mrt_records::{Refusal, read_message};
 use std::test::Fail;
 use wire_model::Rule;
 

@@ -1,8 +1,8 @@
 use Rattle.std.proofs.Common.{◌≡◌, ℕ, suc, ◌+◌, ◌-◌, ◌^◌, ◌/◌, ◌≤◌, ◌++◌, true, false, sym, ap, ◌∙◌, refl, subst, arith, rules, replicate}
 use Rattle.std.specs.Prelude.{bit_or, bit_and}
-use Rattle.buddy_arena.specs.Space.{blocks, has_order, first_of, marked}
+use Rattle.buddy_arena.specs.Space.{blocks, has_order, first_block, marked}
 use Rattle.buddy_arena.specs.Words.{word_free}
-use Rattle.buddy_arena.specs.Masks.{ord, root, free_of, free_parts}
+use Rattle.buddy_arena.specs.Masks.{ord, whole_arena, free_of, free_parts}
 use Rattle.buddy_arena.proofs.Bits.{double}
 use Rattle.buddy_arena.proofs.Firsts.{order_fits}
 use Rattle.buddy_arena.proofs.Masks.{ord_is, parts_mixed, free_len}
@@ -16,31 +16,31 @@ pub carve-first_place-place-requires-clause-fits : goal.carve-first_place-place-
 carve-first_place-place-requires-clause-fits t c = word_small c.args.base c.args.height c.args.s.now c.if-height-eq0.true c.requires.right
 
 pub carve-first_place-place-requires-clause-small : goal.carve-first_place-place-requires-clause-small
-carve-first_place-place-requires-clause-small t c = omega (arith, order_fits c.args.base c.args.m (word_free c.args.base (root c.args.s.now)) (ap (has_order c.args.m) (word_blocks c.args.base c.args.height c.args.s.now c.if-height-eq0.true) ∙ c.requires.has))
+carve-first_place-place-requires-clause-small t c = omega (arith, order_fits c.args.base c.args.m (word_free c.args.base (whole_arena c.args.s.now)) (ap (has_order c.args.m) (word_blocks c.args.base c.args.height c.args.s.now c.if-height-eq0.true) ∙ c.requires.has))
 
 pub carve-first_place-place-requires-clause-there : goal.carve-first_place-place-requires-clause-there
 carve-first_place-place-requires-clause-there t c = ap (has_order c.args.m) (word_blocks c.args.base c.args.height c.args.s.now c.if-height-eq0.true) ∙ c.requires.has
 
 pub carve-span-taken-requires-clause-few : goal.carve-span-taken-requires-clause-few
-carve-span-taken-requires-clause-few t c = omega (arith, order_fits c.args.base c.args.m (word_free c.args.base (root c.args.s.now)) (ap (has_order c.args.m) (word_blocks c.args.base c.args.height c.args.s.now c.if-height-eq0.true) ∙ c.requires.has))
+carve-span-taken-requires-clause-few t c = omega (arith, order_fits c.args.base c.args.m (word_free c.args.base (whole_arena c.args.s.now)) (ap (has_order c.args.m) (word_blocks c.args.base c.args.height c.args.s.now c.if-height-eq0.true) ∙ c.requires.has))
 
 pub carve-span-taken-requires-clause-within : goal.carve-span-taken-requires-clause-within
-carve-span-taken-requires-clause-within t c = omega (arith, word_within c.args.base c.args.m c.args.k c.first_place-place.result (root c.args.s.now) c.requires.orders.0 (ap (has_order c.args.m) (word_blocks c.args.base c.args.height c.args.s.now c.if-height-eq0.true) ∙ c.requires.has) c.first_place-place.ensures.place, small_word c.args.base c.requires.orders.1)
+carve-span-taken-requires-clause-within t c = omega (arith, word_within c.args.base c.args.m c.args.k c.first_place-place.result (whole_arena c.args.s.now) c.requires.orders.0 (ap (has_order c.args.m) (word_blocks c.args.base c.args.height c.args.s.now c.if-height-eq0.true) ∙ c.requires.has) c.first_place-place.ensures.place, small_word c.args.base c.requires.orders.1)
 
 pub carve-bounds-s-0-then-height-eq0 : goal.carve-bounds-s-0-then-height-eq0
 carve-bounds-s-0-then-height-eq0 t c = some_masks c.args.base c.args.height c.args.s.now c.requires.right
 
 pub carve-returns-then-height-eq0-clause-right : goal.carve-returns-then-height-eq0-clause-right
-carve-returns-then-height-eq0-clause-right t c = (word_taken c.args.base c.args.height c.first_place-place.result c.args.k c.span-taken.result c.args.s.now c.if-height-eq0.true c.requires.right (word_within c.args.base c.args.m c.args.k c.first_place-place.result (root c.args.s.now) c.requires.orders.0 (ap (has_order c.args.m) (word_blocks c.args.base c.args.height c.args.s.now c.if-height-eq0.true) ∙ c.requires.has) c.first_place-place.ensures.place) c.span-taken.ensures).0
+carve-returns-then-height-eq0-clause-right t c = (word_taken c.args.base c.args.height c.first_place-place.result c.args.k c.span-taken.result c.args.s.now c.if-height-eq0.true c.requires.right (word_within c.args.base c.args.m c.args.k c.first_place-place.result (whole_arena c.args.s.now) c.requires.orders.0 (ap (has_order c.args.m) (word_blocks c.args.base c.args.height c.args.s.now c.if-height-eq0.true) ∙ c.requires.has) c.first_place-place.ensures.place) c.span-taken.ensures).0
 
 pub carve-returns-then-height-eq0-clause-place : goal.carve-returns-then-height-eq0-clause-place
-carve-returns-then-height-eq0-clause-place t c = c.first_place-place.ensures.place ∙ ap (first_of c.args.m) (word_blocks c.args.base c.args.height c.args.s.now c.if-height-eq0.true)
+carve-returns-then-height-eq0-clause-place t c = c.first_place-place.ensures.place ∙ ap (first_block c.args.m) (word_blocks c.args.base c.args.height c.args.s.now c.if-height-eq0.true)
 
 pub carve-returns-then-height-eq0-clause-within : goal.carve-returns-then-height-eq0-clause-within
-carve-returns-then-height-eq0-clause-within t c = subst (λ (i : ℕ). c.first_place-place.result + 2 ^ c.args.k ≤ 2 ^ i) (sym (ord_zero c.args.base c.args.height c.if-height-eq0.true)) (word_within c.args.base c.args.m c.args.k c.first_place-place.result (root c.args.s.now) c.requires.orders.0 (ap (has_order c.args.m) (word_blocks c.args.base c.args.height c.args.s.now c.if-height-eq0.true) ∙ c.requires.has) c.first_place-place.ensures.place)
+carve-returns-then-height-eq0-clause-within t c = subst (λ (i : ℕ). c.first_place-place.result + 2 ^ c.args.k ≤ 2 ^ i) (sym (ord_zero c.args.base c.args.height c.if-height-eq0.true)) (word_within c.args.base c.args.m c.args.k c.first_place-place.result (whole_arena c.args.s.now) c.requires.orders.0 (ap (has_order c.args.m) (word_blocks c.args.base c.args.height c.args.s.now c.if-height-eq0.true) ∙ c.requires.has) c.first_place-place.ensures.place)
 
 pub carve-returns-then-height-eq0-clause-free : goal.carve-returns-then-height-eq0-clause-free
-carve-returns-then-height-eq0-clause-free t c = (word_taken c.args.base c.args.height c.first_place-place.result c.args.k c.span-taken.result c.args.s.now c.if-height-eq0.true c.requires.right (word_within c.args.base c.args.m c.args.k c.first_place-place.result (root c.args.s.now) c.requires.orders.0 (ap (has_order c.args.m) (word_blocks c.args.base c.args.height c.args.s.now c.if-height-eq0.true) ∙ c.requires.has) c.first_place-place.ensures.place) c.span-taken.ensures).1
+carve-returns-then-height-eq0-clause-free t c = (word_taken c.args.base c.args.height c.first_place-place.result c.args.k c.span-taken.result c.args.s.now c.if-height-eq0.true c.requires.right (word_within c.args.base c.args.m c.args.k c.first_place-place.result (whole_arena c.args.s.now) c.requires.orders.0 (ap (has_order c.args.m) (word_blocks c.args.base c.args.height c.args.s.now c.if-height-eq0.true) ∙ c.requires.has) c.first_place-place.ensures.place) c.span-taken.ensures).1
 
 pub carve-split_at_mut-head-requires : goal.carve-split_at_mut-head-requires
 carve-split_at_mut-head-requires t c = some_masks c.args.base c.args.height c.args.s.now c.requires.right
@@ -49,7 +49,7 @@ pub carve-carve_parts-requires : goal.carve-carve_parts-requires
 carve-carve_parts-requires t c =
     let k = cut_up c.args.base c.args.height c.args.s.now c.split_at_mut-head.result.0.now c.split_at_mut-head.result.1.now c.split_at_mut-low.result.0.now c.split_at_mut-low.result.1.now c.if-height-eq0.false c.requires.right c.split_at_mut-head.ensures.front c.split_at_mut-head.ensures.back c.split_at_mut-low.ensures.front c.split_at_mut-low.ensures.back in
     let e = ord_down c.args.base c.args.height c.if-height-eq0.false in
-    (search rules, (k.right, ((c.requires.orders.0, c.requires.orders.1, omega arith), ap (λ i. has_order c.args.m (blocks i (free_parts c.args.base (c.args.height - 1) (root c.split_at_mut-head.result.0.now) c.split_at_mut-low.result.0.now c.split_at_mut-low.result.1.now))) e ∙ ap (λ f. has_order c.args.m (blocks (ord c.args.base c.args.height) f)) (sym k.free) ∙ c.requires.has)))
+    (search rules, (k.right, ((c.requires.orders.0, c.requires.orders.1, omega arith), ap (λ i. has_order c.args.m (blocks i (free_parts c.args.base (c.args.height - 1) (whole_arena c.split_at_mut-head.result.0.now) c.split_at_mut-low.result.0.now c.split_at_mut-low.result.1.now))) e ∙ ap (λ f. has_order c.args.m (blocks (ord c.args.base c.args.height) f)) (sym k.free) ∙ c.requires.has)))
 
 pub carve-returns-clause-right : goal.carve-returns-clause-right
 carve-returns-clause-right t c =
@@ -61,8 +61,8 @@ carve-returns-clause-place t c =
     let k = cut_up c.args.base c.args.height c.args.s.now c.split_at_mut-head.result.0.now c.split_at_mut-head.result.1.now c.split_at_mut-low.result.0.now c.split_at_mut-low.result.1.now c.if-height-eq0.false c.requires.right c.split_at_mut-head.ensures.front c.split_at_mut-head.ensures.back c.split_at_mut-low.ensures.front c.split_at_mut-low.ensures.back in
     let e = ord_down c.args.base c.args.height c.if-height-eq0.false in
     c.carve_parts.ensures.place
-    ∙ ap (λ i. first_of c.args.m (blocks i (free_parts c.args.base (c.args.height - 1) (root c.split_at_mut-head.result.0.now) c.split_at_mut-low.result.0.now c.split_at_mut-low.result.1.now))) e
-    ∙ ap (λ f. first_of c.args.m (blocks (ord c.args.base c.args.height) f)) (sym k.free)
+    ∙ ap (λ i. first_block c.args.m (blocks i (free_parts c.args.base (c.args.height - 1) (whole_arena c.split_at_mut-head.result.0.now) c.split_at_mut-low.result.0.now c.split_at_mut-low.result.1.now))) e
+    ∙ ap (λ f. first_block c.args.m (blocks (ord c.args.base c.args.height) f)) (sym k.free)
 
 pub carve-returns-clause-within : goal.carve-returns-clause-within
 carve-returns-clause-within t c = subst (λ (i : ℕ). c.carve_parts.result + 2 ^ c.args.k ≤ 2 ^ i) (ord_down c.args.base c.args.height c.if-height-eq0.false) c.carve_parts.ensures.within

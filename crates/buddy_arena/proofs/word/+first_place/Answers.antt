@@ -1,7 +1,7 @@
 use Rattle.std.proofs.Common.{rules, ◌≡◌, ◌≢◌, ◌<◌, ◌^◌, ◌-◌, ◌+◌, ◌∙◌, ap, sym, subst, arith, nat_eq, ℕ, true}
 use Rattle.std.specs.Int.{bit_at}
 use Rattle.std.proofs.lemmas.Nat.{one_shl}
-use Rattle.buddy_arena.specs.Space.{blocks, has_order, first_of}
+use Rattle.buddy_arena.specs.Space.{blocks, has_order, first_block}
 use Rattle.buddy_arena.specs.Words.{word_free}
 use Rattle.buddy_arena.proofs.Words.{first_full, some_left, low_there, low_first, high_there, high_first, high_small, low_fits, low_blocks, up_one}
 use Rattle.buddy_arena.proofs.word.+first_place.Goals as goal
@@ -26,7 +26,7 @@ returns-then-orders-m-eq1-clause-place t c =
     let n : c.args.w ≢ 2 ^ (2 ^ c.args.k) - 1 = λ e. c.if-w-ones.false (e ∙ sym c.ones.ensures) in
     let p = some_left c.args.k c.args.w c.args.m c.requires.fits n c.requires.there in
     let o : nat_eq (bit_at c.orders.result c.args.m) 1 ≡ has_order c.args.m (low_blocks c.args.k c.args.w) = c.orders.ensures c.args.m ∙ ap (λ x. has_order c.args.m (blocks (c.args.k - 1) (word_free (c.args.k - 1) x))) c.low_half-low.ensures in
-    c.first_place.ensures.place ∙ (ap (λ x. first_of c.args.m (blocks (c.args.k - 1) (word_free (c.args.k - 1) x))) c.low_half-low.ensures ∙ low_first c.args.k c.args.w c.args.m c.orders.result p c.requires.fits n o c.if-orders-m-eq1.true)
+    c.first_place.ensures.place ∙ (ap (λ x. first_block c.args.m (blocks (c.args.k - 1) (word_free (c.args.k - 1) x))) c.low_half-low.ensures ∙ low_first c.args.k c.args.w c.args.m c.orders.result p c.requires.fits n o c.if-orders-m-eq1.true)
 
 pub returns-then-orders-m-eq1-clause-within : goal.returns-then-orders-m-eq1-clause-within
 returns-then-orders-m-eq1-clause-within t c =
@@ -48,7 +48,7 @@ returns-clause-place t c =
     let p = some_left c.args.k c.args.w c.args.m c.requires.fits n c.requires.there in
     let o : nat_eq (bit_at c.orders.result c.args.m) 1 ≡ has_order c.args.m (low_blocks c.args.k c.args.w) = c.orders.ensures c.args.m ∙ ap (λ x. has_order c.args.m (blocks (c.args.k - 1) (word_free (c.args.k - 1) x))) c.low_half-low.ensures in
     ap (λ x. x + c.first_place-2.result) (one_shl (c.args.k - 1) 32 (omega arith))
-    ∙ (ap (λ x. 2 ^ (c.args.k - 1) + x) (c.first_place-2.ensures.place ∙ ap (λ x. first_of c.args.m (blocks (c.args.k - 1) (word_free (c.args.k - 1) x))) c.high_half.ensures)
+    ∙ (ap (λ x. 2 ^ (c.args.k - 1) + x) (c.first_place-2.ensures.place ∙ ap (λ x. first_block c.args.m (blocks (c.args.k - 1) (word_free (c.args.k - 1) x))) c.high_half.ensures)
     ∙ high_first c.args.k c.args.w c.args.m c.orders.result p c.requires.fits n o c.if-orders-m-eq1.false c.requires.there)
 
 pub returns-clause-within : goal.returns-clause-within

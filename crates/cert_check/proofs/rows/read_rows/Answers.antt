@@ -1,7 +1,7 @@
 use Rattle.std.proofs.Common.{◌≡◌, ◌+◌, sym, ap, subst, ◌∙◌, arith, map, drop, List, Some, length}
 use Rattle.cert_model.specs.Rows.{CertRow}
 use Rattle.cert_model.specs.Verdict.{Shape, wrong_row}
-use Rattle.packed_rows.specs.Views.{packed_as}
+use Rattle.cert_model.specs.PackedViews.{packed_as}
 use Rattle.cert_check.specs.Stack.{stack_as, due_as, BoundsTold}
 use Rattle.cert_check.proofs.Stacks.{went_on, stopped, rows_next, rows_over, rows_short}
 use Rattle.cert_check.proofs.rows.read_rows.Goals as goal

@@ -2,7 +2,7 @@ use Rattle.std.proofs.Common.{◌≡◌, ◌+◌, ◌≤◌, [], ◌∷◌, map,
 use Rattle.table_model.specs.declared.family.Family.TheVariants.{V4, V6}
 use Rattle.table_model.specs.Entries.{Entries}
 use Rattle.cert_model.specs.Verdict.{wrong_row}
-use Rattle.packed_rows.specs.Views.{packed_as}
+use Rattle.cert_model.specs.PackedViews.{packed_as}
 use Rattle.cert_check.specs.Marks.{AreMarks}
 use Rattle.cert_check.specs.Runs.{TellsBoth}
 use Rattle.cert_check.specs.Stack.{stack_as, due_as, leaf_weight, AllRight, BoundsTold}

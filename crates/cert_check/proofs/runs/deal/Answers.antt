@@ -1,6 +1,6 @@
 use Rattle.std.proofs.Common.{◌≡◌, ◌∙◌, ◌+◌, true, false, ap, refl, take, take_all}
 use Rattle.table_model.specs.Table.{root, half}
-use Rattle.cert_check.specs.Runs.{table_of}
+use Rattle.cert_check.specs.Runs.{parts_table}
 use Rattle.cert_check.proofs.Deals.{own_next, half_next}
 use Rattle.cert_check.proofs.runs.deal.Goals as goal
 
@@ -21,7 +21,7 @@ returns c =
     let all : take c.loop-part.part-index c.deref-part-items.result.now ≡ parts = take_all c.loop-part.part-index c.deref-part-items.result.now c.loop-part-test.false ∙ c.deref-part-items.ensures.value in
     let dealt = c.loop-part.invariant in
     record {
-      own = dealt.0 ∙ ap (λ ps. root (table_of (c.args.left + 1) ps)) all;
-      low = dealt.1 ∙ ap (λ ps. half false (table_of (c.args.left + 1) ps)) all;
-      high = dealt.2 ∙ ap (λ ps. half true (table_of (c.args.left + 1) ps)) all;
+      own = dealt.0 ∙ ap (λ ps. root (parts_table (c.args.left + 1) ps)) all;
+      low = dealt.1 ∙ ap (λ ps. half false (parts_table (c.args.left + 1) ps)) all;
+      high = dealt.2 ∙ ap (λ ps. half true (parts_table (c.args.left + 1) ps)) all;
     }

@@ -4,7 +4,7 @@ use Rattle.cert_model.specs.Right.{IsCertificate}
 use Rattle.cert_model.proofs.Verdicts.{verdict_is, verdict_from}
 use Rattle.cert_model.proofs.Rules.{soundness_law}
 use Rattle.fib_addr.specs.Views.{entry_as}
-use Rattle.packed_rows.specs.Views.{packed_as}
+use Rattle.cert_model.specs.PackedViews.{packed_as}
 use Rattle.cert_check.specs.Views.{no_as}
 use Rattle.cert_check.proofs.Counts.{packed_rows_fit, some_not_none}
 use Rattle.cert_check.proofs.verdict.check.Goals as goal

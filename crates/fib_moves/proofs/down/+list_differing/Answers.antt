@@ -1,5 +1,5 @@
 use Rattle.std.proofs.Common.{refl, ap, arith, true, false}
-use Rattle.orig_tree.specs.Spots.{answers_in}
+use Rattle.orig_tree.specs.Spots.{spot_answers}
 use Rattle.table_model.specs.Address.{Prefix}
 use Rattle.table_model.specs.Width.{width}
 use Rattle.fib_addr.specs.Views.{prefix_as}
@@ -10,12 +10,12 @@ use Rattle.fib_moves.proofs.down.+list_differing.Goals as goal
 pub due_hop-gets-requires : goal.due_hop-gets-requires
 due_hop-gets-requires t c =
     let s = c.args.region.now in
-    c.hops_of-found.ensures s.bits (answers_in s) s.entries c.requires.knows
+    c.hops_of-found.ensures s.bits (spot_answers s) s.entries c.requires.knows
 
 pub is_end-requires-clause-found : goal.is_end-requires-clause-found
 is_end-requires-clause-found t c =
     let s = c.args.region.now in
-    c.hops_of-found.ensures s.bits (answers_in s) s.entries c.requires.knows
+    c.hops_of-found.ensures s.bits (spot_answers s) s.entries c.requires.knows
 
 pub returns-then-is_end : goal.returns-then-is_end
 returns-then-is_end t c =

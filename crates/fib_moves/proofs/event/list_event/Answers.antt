@@ -5,7 +5,7 @@ use Rattle.kept_model.specs.Between.{between}
 use Rattle.fib_addr.specs.Views.{entry_as, prefix_as}
 use Rattle.fib_addr.specs.declared.entry.Entry as code
 use Rattle.fib_delta.specs.Views.{change_as}
-use Rattle.orig_tree.specs.Spots.{answers_in}
+use Rattle.orig_tree.specs.Spots.{spot_answers}
 use Rattle.fib_moves.specs.Turns.{AreTurned, around}
 use Rattle.fib_moves.proofs.Turns.{event_list, event_entries, fine_old, fine_new}
 use Rattle.fib_moves.proofs.event.list_event.Goals as goal
@@ -13,7 +13,7 @@ use Rattle.fib_moves.proofs.event.list_event.Goals as goal
 pub list_turn-requires : goal.list_turn-requires
 list_turn-requires c =
     let r = c.args.region.now in
-    c.hops_of.ensures r.bits (answers_in r) r.entries c.requires.knows
+    c.hops_of.ensures r.bits (spot_answers r) r.entries c.requires.knows
 
 pub between-requires-clause-old : goal.between-requires-clause-old
 between-requires-clause-old c =

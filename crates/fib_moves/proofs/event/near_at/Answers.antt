@@ -7,12 +7,12 @@ use Rattle.table_model.specs.Entries.{of_family}
 use Rattle.kept_model.specs.Between.{between}
 use Rattle.fib_addr.specs.Views.{prefix_as}
 use Rattle.fib_delta.specs.Views.{change_as}
-use Rattle.moves_cert.specs.Rows.{near_in}
+use Rattle.moves_model.specs.Rows.{near_in}
 use Rattle.fib_moves.specs.Turns.{AreTurned}
 use Rattle.fib_moves.proofs.Turns.{near_told, turn_short, bits_long}
 use Rattle.fib_moves.proofs.Ways.{way_turn}
 use Rattle.fib_moves.proofs.Whole.{tree_family, near_is_shortest}
-use Rattle.moves_cert.specs.Shortest.{AreShortest}
+use Rattle.moves_model.specs.Shortest.{AreShortest}
 use Rattle.table_model.specs.Changes.{Change as ModelChange}
 use Rattle.fib_moves.proofs.event.near_at.Goals as goal
 

@@ -2,7 +2,7 @@ use Rattle.std.proofs.Common.{ap, arith, true, false}
 use Rattle.std.proofs.lemmas.Result.{IfOk-weaker}
 use Rattle.table_model.specs.Address.{Prefix}
 use Rattle.table_model.specs.Width.{width}
-use Rattle.orig_tree.specs.Spots.{answers_in}
+use Rattle.orig_tree.specs.Spots.{spot_answers}
 use Rattle.orig_tree.proofs.Telling.{half_longer}
 use Rattle.fib_moves.specs.Needs.{Knows, IsJoined}
 use Rattle.fib_moves.proofs.Parts.{place_half, knows_join}
@@ -25,6 +25,6 @@ returns t c =
     let s = c.args.place.now.region in
     let l = c.half-low.ensures in
     let h = c.half-high.ensures in
-    IfOk-weaker c.join.result (IsJoined c.half-low.result.region c.half-high.result.region) (Knows s.bits (answers_in s) s.entries)
+    IfOk-weaker c.join.result (IsJoined c.half-low.result.region c.half-high.result.region) (Knows s.bits (spot_answers s) s.entries)
     (λ x j. knows_join s c.half-low.result.region c.half-high.result.region l.bits l.routes l.entries l.hop h.bits h.routes h.entries h.hop x j)
     c.join.ensures

@@ -1,7 +1,7 @@
-use Rattle.orig_tree.specs.Spots.{answers_in}
+use Rattle.orig_tree.specs.Spots.{spot_answers}
 use Rattle.fib_moves.proofs.needs.changes_of.Goals as goal
 
 pub allows-requires : goal.allows-requires
 allows-requires c =
     let r = c.args.region.now in
-    c.hops_of.ensures r.bits (answers_in r) r.entries c.requires
+    c.hops_of.ensures r.bits (spot_answers r) r.entries c.requires

@@ -1,5 +1,5 @@
 use Rattle.std.proofs.Common.{sym, subst}
-use Rattle.allowed_hops.specs.Views.{SameAllowed, allowed_as}
+use Rattle.fib_moves.specs.Views.{SameAllowed, allowed_as}
 use Rattle.moves_model.specs.Sets.{inner_set}
 use Rattle.fib_moves.specs.declared.needs.RegionNeeds.{RegionNeeds}
 use Rattle.fib_moves.specs.declared.needs.RegionNeeds.TheViews.{out-RegionNeeds}

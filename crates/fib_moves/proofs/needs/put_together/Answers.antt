@@ -1,20 +1,20 @@
 use Rattle.std.proofs.Common.{ℕ, ◌+◌, cond, ap, ◌∙◌, Some}
 use Rattle.std.proofs.lemmas.Result.{IfOk-weaker}
-use Rattle.orig_tree.specs.Spots.{answers_in}
+use Rattle.orig_tree.specs.Spots.{spot_answers}
 use Rattle.fib_moves.specs.Needs.{IsBoxed, IsJoined}
 use Rattle.fib_moves.proofs.Parts.{joined_some}
 use Rattle.fib_moves.proofs.needs.put_together.Goals as goal
-use Rattle.allowed_hops.specs.Views.{allowed_as}
+use Rattle.fib_moves.specs.Views.{allowed_as}
 
 pub may_inherit-requires : goal.may_inherit-requires
 may_inherit-requires c =
     let r = c.args.low.now in
-    c.hops_of.ensures r.bits (answers_in r) r.entries c.requires.low
+    c.hops_of.ensures r.bits (spot_answers r) r.entries c.requires.low
 
 pub may_inherit-requires-2 : goal.may_inherit-requires-2
 may_inherit-requires-2 c =
     let r = c.args.high.now in
-    c.hops_of-2.ensures r.bits (answers_in r) r.entries c.requires.high
+    c.hops_of-2.ensures r.bits (spot_answers r) r.entries c.requires.high
 
 pub returns : goal.returns
 returns c =

@@ -8,9 +8,9 @@ use Rattle.fib_addr.specs.Views.{prefix_as}
 use Rattle.fib_delta.specs.Views.{change_as}
 use Rattle.cert_model.specs.Views.{row_as}
 use Rattle.kept_model.specs.Between.{between}
-use Rattle.moves_cert.specs.Shortest.{AreProvedShortest}
-use Rattle.moves_cert.specs.Rows.{near_in}
-use Rattle.moves_cert.proofs.Whole.{are_shortest}
+use Rattle.moves_model.specs.Shortest.{AreProvedShortest}
+use Rattle.moves_model.specs.Rows.{near_in}
+use Rattle.moves_model.proofs.Whole.{are_shortest}
 use Rattle.fib_moves.specs.Passes.{ListsChanges}
 use Rattle.fib_moves.proofs.Whole.{whole_place, spot_table, bound_told, rows_told, changes_told, count_told, shortest_told, tree_family}
 use Rattle.fib_moves.proofs.shortest.near.Goals as goal

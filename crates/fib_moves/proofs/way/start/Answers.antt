@@ -8,8 +8,8 @@ use Rattle.table_model.proofs.Both.{family_is}
 use Rattle.cert_model.specs.Rows.{whole_prefix}
 use Rattle.fib_addr.specs.Views.{prefix_as}
 use Rattle.orig_tree.proofs.Telling.{whole_len}
-use Rattle.moves_event.specs.Way.{turn_by}
-use Rattle.moves_event.proofs.Entries.{above_nil}
+use Rattle.moves_model.specs.Way.{turn_by}
+use Rattle.moves_model.proofs.Entries.{above_nil}
 use Rattle.fib_moves.proofs.Whole.{whole_place, tree_family}
 use Rattle.fib_moves.proofs.way.start.Goals as goal
 

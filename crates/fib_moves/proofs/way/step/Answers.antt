@@ -1,6 +1,6 @@
 use Rattle.std.proofs.Common.{◌≡◌, ℕ, Option, true, false, not, ap, ◌∙◌, arith}
 use Rattle.table_model.specs.Table.{inherit}
-use Rattle.fib_moves.specs.declared.way.Turn.{Turn}
+use Rattle.fib_moves.specs.declared.way.LastBlocked.{LastBlocked}
 use Rattle.fib_moves.specs.declared.way.Way.{Way}
 use Rattle.fib_moves.proofs.Parts.{place_half}
 use Rattle.fib_moves.proofs.Passing.{table_down}
@@ -27,7 +27,7 @@ returns c =
       entries = h.entries;
       comes = c.below-comes.ensures ∙ ap (λ o. inherit o x.comes) c.entry.ensures;
       turn = elim c.if-is_blocked.branch [
-        | then-is_blocked w ↦ turn_told c.args.bit true c.is_blocked.result x y w.if-is_blocked.true e (w.turn-is ∙ ap (λ (o : Option ℕ). let t : Turn = record { prefix = c.half-at.result; old = o; inherited = c.below-comes.result } in t) w.entry-then-is_blocked.ensures)
+        | then-is_blocked w ↦ turn_told c.args.bit true c.is_blocked.result x y w.if-is_blocked.true e (w.turn-is ∙ ap (λ (o : Option ℕ). let t : LastBlocked = record { prefix = c.half-at.result; old = o; inherited = c.below-comes.result } in t) w.entry-then-is_blocked.ensures)
         | else-is_blocked w ↦ turn_told c.args.bit false c.is_blocked.result x y w.if-is_blocked.false e w.turn-is
       ];
     }

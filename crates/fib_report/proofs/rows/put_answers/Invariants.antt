@@ -1,7 +1,7 @@
 use Rattle.std.proofs.Common.{flat_map, map, take}
 use Rattle.std.specs.List.{AllByRecursion}
 use Rattle.fib_report.specs.Views.{answer_as}
-use Rattle.printed_model.specs.Rows.{IsRow, text_of}
+use Rattle.printed_text.specs.Rows.{IsRow, text_of}
 use Rattle.fib_report.specs.Rows.{of_answer}
 use Rattle.fib_report.specs.Writing.{AddsRows}
 use Rattle.fib_report.proofs.rows.put_answers.Given as goal

@@ -1,6 +1,6 @@
 use Rattle.std.proofs.Common.{refl}
 use Rattle.cert_model.specs.Views.{row_as}
-use Rattle.printed_model.specs.Numbered.{of_cert}
+use Rattle.printed_text.specs.Numbered.{of_cert}
 use Rattle.fib_report.proofs.Loops.{AddsRows-item}
 use Rattle.fib_report.proofs.Proper.{one_proper}
 use Rattle.fib_report.proofs.rows.put_cert.Goals as goal

@@ -1,8 +1,8 @@
 use Rattle.std.proofs.Common.{map, take}
 use Rattle.std.specs.List.{AllByRecursion}
 use Rattle.cert_model.specs.Views.{row_as}
-use Rattle.printed_model.specs.Rows.{IsRow, text_of}
-use Rattle.printed_model.specs.Numbered.{of_cert}
+use Rattle.printed_text.specs.Rows.{IsRow, text_of}
+use Rattle.printed_text.specs.Numbered.{of_cert}
 use Rattle.fib_report.specs.Writing.{AddsRows}
 use Rattle.fib_report.proofs.rows.put_cert.Given as goal
 

@@ -1,7 +1,7 @@
 use Rattle.std.proofs.Common.{[], ◌∷◌, ap, arith, subst}
 use Rattle.fib_addr.specs.Hops.{hop_at}
 use Rattle.fib_addr.specs.Views.{addr_as}
-use Rattle.printed_model.specs.Rows.{IsHop, PrintedRow, answer_row, visits_row, line_of}
+use Rattle.printed_text.specs.Rows.{IsHop, PrintedRow, answer_row, visits_row, line_of}
 use Rattle.fib_report.specs.Writing.{AddsRows}
 use Rattle.fib_report.proofs.Loops.{AddsRows-one, AddsRows-before}
 use Rattle.fib_report.proofs.Proper.{address_proper, hop_proper}

@@ -1,5 +1,5 @@
 use Rattle.std.proofs.Common.{List, [], ◌∷◌, arith}
-use Rattle.printed_model.specs.Rows.{PrintedRow, Records, Skipped, Events, Routes, Entries, Nodes, Leaves, Treated, report_row}
+use Rattle.printed_text.specs.Rows.{PrintedRow, Records, Skipped, Events, Routes, Entries, Nodes, Leaves, Treated, report_row}
 use Rattle.fib_report.proofs.Loops.{AddsRows-one, AddsRows-before}
 use Rattle.fib_report.proofs.rows.put_report.Goals as goal
 

@@ -4,7 +4,7 @@ use Rattle.table_model.proofs.SamePrefix.{same_prefix_is}
 use Rattle.fib_addr.specs.Views.{prefix_as}
 use Rattle.fib_addr.specs.declared.prefix.Prefix as code
 use Rattle.fib_rov.specs.declared.numbered.Numbered.{Numbered}
-use Rattle.fib_rov.specs.Index.{IsLast, encloses, covers, prefix_of, AreUpTo}
+use Rattle.fib_rov.specs.Index.{IsLast, encloses, vrp_covers, prefix_of, AreUpTo}
 use Rattle.fib_rov.proofs.Lasts.{at_place, link_own, link_shared, prefix_at, up_before}
 use Rattle.fib_rov.proofs.index.link.Goals as goal
 use Rattle.fib_rov.proofs.index.link.Goals.{else-at-gt0-via-then-at-gt0+else-has_prefix_of, else-at-gt0-via-else-at-gt0}
@@ -17,7 +17,7 @@ pub returns-then-has_prefix_of : goal.returns-then-has_prefix_of
 returns-then-has_prefix_of c = λ r.
     let sorted = c.args.sorted.now in
     let q = at_place sorted c.args.place c.index-sorted-place.result in
-    let last = subst (λ (p : code.Prefix). IsLast (covers (prefix_as p)) sorted c.args.place c.last_cover-at.result) (c.prefix.ensures ∙ ap prefix_of c.index-sorted-place.is) c.last_cover-at.ensures in
+    let last = subst (λ (p : code.Prefix). IsLast (vrp_covers (prefix_as p)) sorted c.args.place c.last_cover-at.result) (c.prefix.ensures ∙ ap prefix_of c.index-sorted-place.is) c.last_cover-at.ensures in
     subst (λ p. IsLast (encloses p) sorted c.args.place (get_or c.args.links.now (c.last_cover-at.result - 1) 0)) (prefix_at sorted c.args.place c.index-sorted-place.result r c.requires.within)
     (link_shared sorted c.args.links.now c.args.place c.last_cover-at.result q r c.requires.linked c.if-at-gt0.true last
     (λ d. prefix_at sorted (c.last_cover-at.result - 1) d c.index-sorted-at.result (omega (arith, c.if-at-gt0.true, c.last_cover-at.ensures.few, c.requires.within))
@@ -27,7 +27,7 @@ pub returns-else-at-gt0 : goal.returns-else-at-gt0
 returns-else-at-gt0 c = λ r.
     let sorted = c.args.sorted.now in
     let q = at_place sorted c.args.place c.index-sorted-place.result in
-    let last = subst (λ (p : code.Prefix). IsLast (covers (prefix_as p)) sorted c.args.place c.last_cover-at.result) (c.prefix.ensures ∙ ap prefix_of c.index-sorted-place.is) c.last_cover-at.ensures in
+    let last = subst (λ (p : code.Prefix). IsLast (vrp_covers (prefix_as p)) sorted c.args.place c.last_cover-at.result) (c.prefix.ensures ∙ ap prefix_of c.index-sorted-place.is) c.last_cover-at.ensures in
     subst (λ p. IsLast (encloses p) sorted c.args.place c.last_cover-at.result) (prefix_at sorted c.args.place c.index-sorted-place.result r c.requires.within)
     (link_own sorted c.args.place c.last_cover-at.result q last
     (λ d h. elim c.else-at-gt0.branch [

@@ -1,7 +1,7 @@
 use Rattle.std.proofs.Common.{◌+◌, ◌≡◌, ◌∷◌, [], ◌++◌, map, subst, sym, ap, ◌∙◌}
 use Rattle.std.proofs.lemmas.List.{map-append}
 use Rattle.std.specs.Prelude.{List}
-use Rattle.printed_model.specs.Rows.{Vrp}
+use Rattle.printed_text.specs.Rows.{Vrp}
 use Rattle.fib_rov.specs.Views.{vrp_as}
 use Rattle.fib_rov.proofs.ReadLines.{Left, empty_line, taken_line, bad_line, no_line}
 use Rattle.fib_rov.proofs.reading.read_vrps.Goals as goal

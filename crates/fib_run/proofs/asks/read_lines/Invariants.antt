@@ -1,6 +1,6 @@
 use Rattle.std.specs.Prelude.{map}
 use Rattle.fib_addr.specs.Views.{addr_as}
-use Rattle.printed_model.specs.Texts.{line_texts}
+use Rattle.printed_text.specs.Texts.{line_texts}
 use Rattle.fib_run.proofs.AskLemmas.{Left}
 use Rattle.fib_run.proofs.asks.read_lines.Given as goal
 

@@ -4,7 +4,7 @@ use Rattle.std.proofs.lemmas.Result.{err_from_is_err_and}
 use Rattle.fib_io.specs.Pieces.{ComeNext, IsEnd, IsLarge}
 use Rattle.fib_io.proofs.Passing.{pass_begins, pass_ends, pass_goes_on, pass_refused, pass_stops}
 use Rattle.fib_io.proofs.Timing.{passes_in_time, time_begins, time_goes_on}
-use Rattle.whole_input.proofs.Arriving.{told_before}
+use Rattle.mrt_read.proofs.Arriving.{told_before}
 use Rattle.fib_due.specs.InTime.{AsksMayGoOn}
 use Rattle.fib_run.proofs.AskReading.{asking_feeds, asking_on, asking_start, brings_all, cause_of_end, cause_of_feed, feed_fits, finish_fits, reads_of_end, reads_of_feed, refused_feed, refused_piece}
 use Rattle.fib_run.proofs.FeedPasses.{asks_end_of_input}

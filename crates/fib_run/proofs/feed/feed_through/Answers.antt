@@ -11,8 +11,8 @@ use Rattle.fib_io.proofs.Timing.{passes_in_time, time_begins, time_goes_on}
 use Rattle.fib_due.specs.Due.{feed_at}
 use Rattle.fib_due.specs.InTime.{FeedMayGoOn}
 use Rattle.fib_run.proofs.FeedPasses.{feeds_end_of_input, feeds_end_of_read, input_numbered, read_numbered, taken_end}
-use Rattle.whole_input.proofs.Arriving.{told_before}
-use Rattle.whole_input.proofs.Cutting.{cut_at_start}
+use Rattle.mrt_read.proofs.Arriving.{told_before}
+use Rattle.mrt_read.proofs.Cutting.{cut_at_start}
 use Rattle.fib_run.proofs.Streaming.{brings_all, few_all, refused_end, refused_piece, refused_read, judged_event, judged_fits, judged_takes, left_whole, Streaming, streaming_feeds, streaming_on, streaming_start}
 use Rattle.fib_run.proofs.feed.feed_through.Goals as goal
 

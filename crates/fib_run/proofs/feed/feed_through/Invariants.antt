@@ -1,13 +1,13 @@
 use Rattle.std.proofs.Common.{◌≡◌, ◌+◌, ◌-◌, ◌^◌, ◌<◌, ◌≤◌, List, [], length, map}
-use Rattle.fib_io.specs.Reads.{AreInTime, Leads, Makes}
+use Rattle.fib_io.specs.Reads.{AreInTime, ReadsLead, Makes}
 use Rattle.fib_report.specs.Views.{invalid_as}
 use Rattle.route_model.specs.Events.{Elem}
 use Rattle.mrt_read.proofs.Fed.{IsFed}
 use Rattle.mrt_read.specs.Standing.{reader_left}
 use Rattle.fib_due.specs.InTime.{FeedMayGoOn}
 use Rattle.fib_due.specs.Refusals.{Limits}
-use Rattle.fib_run.specs.Standing.{IsReady, StateStands}
-use Rattle.whole_input.proofs.Cutting.{IsCutNow}
+use Rattle.fib_run.specs.Standing.{IsAtEvent, StateStands}
+use Rattle.mrt_read.proofs.Cutting.{IsCutNow}
 use Rattle.fib_run.proofs.Streaming.{Streaming}
 use Rattle.fib_run.proofs.feed.feed_through.Given as goal
 
@@ -16,12 +16,12 @@ invariant-loop-invalid g l = record {
   some : 0 < length l.room;
   within : l.at ≤ 2 ^ 36;
   fed : IsFed l.reader l.at;
-  ready : IsReady l.fn.which l.events l.state.engine;
+  ready : IsAtEvent l.fn.which l.events l.state.engine;
   stands : Streaming l.vrps l.fn.which (g.I.Inputs.content l.fn.inputs l.name) l.fn.state l.reader l.state l.at l.events (map invalid_as l.invalid.items);
   cut : IsCutNow l.reader;
   same : g.I.Inputs.content l.inputs ≡ g.I.Inputs.content l.fn.inputs;
   kept : g.I.Inputs.faults l.inputs ≡ g.I.Inputs.faults l.fn.inputs;
-  made : Makes (g.I.Inputs.reads l.fn.inputs) (g.I.Inputs.reads l.inputs) (Leads l.name 0 l.at);
+  made : Makes (g.I.Inputs.reads l.fn.inputs) (g.I.Inputs.reads l.inputs) (ReadsLead l.name 0 l.at);
   in_time : (limits : Limits) (before : List Elem) → StateStands l.fn.which limits before [] l.fn.state → Makes (g.I.Inputs.reads l.fn.inputs) (g.I.Inputs.reads l.inputs) (AreInTime (g.I.Inputs.content l.fn.inputs l.name) (FeedMayGoOn limits.sizes l.vrps l.fn.which before));
 }
 
@@ -33,11 +33,11 @@ invariant-loop-invalid-2 g l = record {
   some : 0 < length l.room;
   within : l.at ≤ 2 ^ 36;
   fed : IsFed l.reader l.at;
-  ready : IsReady l.fn.which l.events l.state.engine;
+  ready : IsAtEvent l.fn.which l.events l.state.engine;
   stands : Streaming l.vrps l.fn.which (g.I.Inputs.content l.fn.inputs l.name) l.fn.state l.reader l.state l.at l.events (map invalid_as l.invalid.items);
   same : g.I.Inputs.content l.inputs ≡ g.I.Inputs.content l.fn.inputs;
   kept : g.I.Inputs.faults l.inputs ≡ g.I.Inputs.faults l.fn.inputs;
-  made : Makes (g.I.Inputs.reads l.fn.inputs) (g.I.Inputs.reads l.inputs) (Leads l.name 0 l.at);
+  made : Makes (g.I.Inputs.reads l.fn.inputs) (g.I.Inputs.reads l.inputs) (ReadsLead l.name 0 l.at);
   in_time : (limits : Limits) (before : List Elem) → StateStands l.fn.which limits before [] l.fn.state → Makes (g.I.Inputs.reads l.fn.inputs) (g.I.Inputs.reads l.inputs) (AreInTime (g.I.Inputs.content l.fn.inputs l.name) (FeedMayGoOn limits.sizes l.vrps l.fn.which before));
 }
 

@@ -1,5 +1,5 @@
 use Rattle.std.proofs.Common.{List, Ok, Result, Some, ap, sym}
-use Rattle.printed_model.specs.Rows.{Vrp}
+use Rattle.printed_text.specs.Rows.{Vrp}
 use Rattle.fib_due.specs.Stops.{Stop}
 use Rattle.std.proofs.lemmas.Result.{err_from_is_err_and}
 use Rattle.fib_due.specs.Due.{limits_of, made_named, vrps_at}

@@ -1,7 +1,7 @@
 use Rattle.std.proofs.Common.{◌+◌, ◌++◌, ◌∷◌, [], refl, sym, ap, map, ◌∙◌, append_assoc}
 use Rattle.table_model.specs.Changes.{additions}
 use Rattle.kept_model.specs.Feed.{at_event, hops_after}
-use Rattle.fewest_feed.specs.Moved.{moved_by, table_by}
+use Rattle.moves_model.specs.Moved.{moved_by, table_by}
 use Rattle.fib_addr.specs.Views.{entry_as}
 use Rattle.fib_delta.specs.Views.{change_as}
 use Rattle.fib_prefix.specs.Views.{elem_as}

@@ -1,4 +1,4 @@
-use Rattle.whole_input.specs.Whole.{MayGoOn}
+use Rattle.mrt_read.specs.Whole.{MayGoOn}
 use Rattle.fib_run.proofs.FeedPasses.{events_read}
 use Rattle.fib_run.proofs.stepping.events_of.Goals as goal
 

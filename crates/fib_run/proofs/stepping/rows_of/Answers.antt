@@ -2,8 +2,8 @@ use Rattle.std.proofs.Common.{ℕ, Err, [], ◌∷◌, map, sym, subst, ◌∙�
 use Rattle.std.proofs.lemmas.Result.{err_from_is_err_and}
 use Rattle.fib_prefix.specs.Views.{event_as}
 use Rattle.step_script.specs.Steps.{step_as}
-use Rattle.step_world.specs.Stepping.{IsTextOf, world_of}
-use Rattle.stepper.specs.Runs.{EndsBy}
+use Rattle.step_run.specs.Stepping.{IsTextOf, world_of}
+use Rattle.stepper.specs.Runs.{StepsEndBy}
 use Rattle.fib_words.specs.Commands.{Steps, steps_as}
 use Rattle.fib_due.specs.declared.outcome.Which.TheVariants as which
 use Rattle.fib_due.specs.Due.{load_at, steps_sizes, with_world, world_at}
@@ -79,7 +79,7 @@ returns-clause-gives g c =
     let events = map event_as c.in_ok-events.events.items in
     let w = world_of (steps_sizes named) load.0.elems events in
     let ends = rw c.deref.ensures.value at (c.in-Err.ensures.stops load.0.elems load.1) in
-    let early = early_of script w c.in-Err.error (subst (λ z. EndsBy (world_of z load.0.elems events) script c.in-Err.error) c.sizes_of.ensures ends) in
+    let early = early_of script w c.in-Err.error (subst (λ z. StepsEndBy (world_of z load.0.elems events) script c.in-Err.error) c.sizes_of.ensures ends) in
     let due = world_at (g.I.Inputs.content c.args.inputs.now) named in
     subst (λ o. GivesText {X = ℕ} (with_world script due) (Err o)) (sym c.outcome_of_step.ensures) (early_due ℕ script due w (of_step c.in-Err.error) (world_due _ named load.0 events load.3 later) (is_of_step c.in-Err.error) early)
 

@@ -1,8 +1,8 @@
 use Rattle.std.proofs.Common.{◌+◌, ℕ, List, get_or, subst, ◌∙◌, Ok}
 use Rattle.std.proofs.lemmas.Result.{err_from_is_err_and}
-use Rattle.cost_cert.specs.Printed.{kind_as}
+use Rattle.printed_text.specs.Printed.{kind_as}
 use Rattle.fib_same.specs.Due.{text_at}
-use Rattle.fib_same.specs.Gives.{IsDueIfTold}
+use Rattle.fib_same.specs.Gives.{MatchesIfTold}
 use Rattle.fib_same.proofs.Finding.{small_more}
 use Rattle.fib_same.proofs.Going.{Content, Going, front_stops, going_ends, going_on, next_read, next_refused, no_name, none_left, opened, texts}
 use Rattle.fib_same.proofs.compare.compare_others.Goals as goal
@@ -23,7 +23,7 @@ loop-name-preserved g c =
     record {
       going = going_on (g.I.Inputs.content c.args.inputs.now) c.args.kind c.args.hops.now.list (texts c.args.names.now) c.args.runs.now c.loop-name.hops.list c.loop-name.place _ _ _ c.loop-name.best c.lesser-best.result read c.in_ok-differ.differ
           (opened c.args.names.now c.loop-name.name-index no_name c.loop-name-test.true)
-          (subst (λ (content : Content). IsDueIfTold (text_at content c.args.kind c.loop-name.hops.list (c.loop-name.place + 2) (get_or c.args.names.now c.loop-name.name-index no_name).now) (Ok read)) c.loop-name.invariant.same c.in_ok-entries.ensures.due)
+          (subst (λ (content : Content). MatchesIfTold (text_at content c.args.kind c.loop-name.hops.list (c.loop-name.place + 2) (get_or c.args.names.now c.loop-name.name-index no_name).now) (Ok read)) c.loop-name.invariant.same c.in_ok-entries.ensures.due)
           (λ first tells. rw c.deref.ensures.value at (c.in_ok-differ.ensures first tells))
           (rw c.found_at.ensures.found at c.lesser-best.ensures.least) (rw c.found_at.ensures.found at c.lesser-best.ensures.one) c.loop-name.invariant.going;
       small = small_more c.loop-name.best c.found_at.result c.lesser-best.result c.found_at.ensures.small c.lesser-best.ensures.one c.loop-name.invariant.small;

@@ -1,7 +1,7 @@
 use Rattle.std.proofs.Common.{◌≡◌, ◌≤◌, ◌+◌, drop, map, length}
 use Rattle.fib_addr.specs.Hops.{most_hops}
 use Rattle.fib_io.specs.Reads.{Makes}
-use Rattle.fib_same.specs.Passes.{numbered}
+use Rattle.fib_same.specs.Passes.{numbered_texts}
 use Rattle.fib_same.specs.Views.{IsSmall}
 use Rattle.fib_same.proofs.Going.{FrontRead, Going}
 use Rattle.fib_same.proofs.compare.compare_others.Given as goal
@@ -13,5 +13,5 @@ invariant-loop-name g l = record {
   few : length l.hops.list ≤ most_hops;
   same : g.I.Inputs.content l.inputs ≡ g.I.Inputs.content l.fn.inputs;
   kept : g.I.Inputs.faults l.inputs ≡ g.I.Inputs.faults l.fn.inputs;
-  made : Makes (g.I.Inputs.reads l.fn.inputs) (g.I.Inputs.reads l.inputs) (FrontRead (numbered 2 (map (λ name. name.now) l.names)) (numbered (l.place + 2) (map (λ name. name.now) (drop l.name-index l.names))));
+  made : Makes (g.I.Inputs.reads l.fn.inputs) (g.I.Inputs.reads l.inputs) (FrontRead (numbered_texts 2 (map (λ name. name.now) l.names)) (numbered_texts (l.place + 2) (map (λ name. name.now) (drop l.name-index l.names))));
 }

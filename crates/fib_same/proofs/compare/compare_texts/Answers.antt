@@ -1,6 +1,6 @@
 use Rattle.std.proofs.Common.{Option}
 use Rattle.std.proofs.lemmas.Result.{err_from_is_err_and}
-use Rattle.cost_cert.specs.Printed.{kind_as}
+use Rattle.printed_text.specs.Printed.{kind_as}
 use Rattle.fib_same.specs.declared.compare.Difference.{Difference}
 use Rattle.fib_same.specs.declared.compare.Found.{Found}
 use Rattle.fib_same.proofs.Going.{texts}

@@ -5,10 +5,10 @@ use Rattle.mrt_read.proofs.Fed.{fed_at_start, fed_more, fed_takes}
 use Rattle.fib_io.specs.Pieces.{ComeNext, IsEnd, IsLarge}
 use Rattle.fib_io.proofs.Passing.{pass_begins, pass_ends, pass_goes_on, pass_refused, pass_stops, pass_stops_at_end}
 use Rattle.fib_io.proofs.Timing.{passes_in_time, time_begins, time_goes_on}
-use Rattle.whole_input.specs.Whole.{MayGoOn}
-use Rattle.whole_input.proofs.Arriving.{told_before}
-use Rattle.whole_input.proofs.Cutting.{cut_at_start}
-use Rattle.whole_input.proofs.Passes.{end_of_input, end_of_read}
+use Rattle.mrt_read.specs.Whole.{MayGoOn}
+use Rattle.mrt_read.proofs.Arriving.{told_before}
+use Rattle.mrt_read.proofs.Cutting.{cut_at_start}
+use Rattle.mrt_read.proofs.Passes.{end_of_input, end_of_read}
 use Rattle.fib_save.proofs.Taking.{may_go_on, refused_end, refused_piece, refused_read, takes_all, taking_feeds, taking_start, taking_takes}
 use Rattle.fib_save.proofs.input.take_through.Goals as goal
 

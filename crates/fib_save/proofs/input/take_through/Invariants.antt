@@ -1,9 +1,9 @@
 use Rattle.std.proofs.Common.{◌≡◌, ◌+◌, ◌-◌, ◌^◌, ◌<◌, ◌≤◌, length}
-use Rattle.fib_io.specs.Reads.{AreInTime, Leads, Makes}
+use Rattle.fib_io.specs.Reads.{AreInTime, ReadsLead, Makes}
 use Rattle.mrt_read.proofs.Fed.{IsFed}
 use Rattle.mrt_read.specs.Standing.{reader_left}
-use Rattle.whole_input.specs.Whole.{MayGoOn}
-use Rattle.whole_input.proofs.Cutting.{IsCutNow}
+use Rattle.mrt_read.specs.Whole.{MayGoOn}
+use Rattle.mrt_read.proofs.Cutting.{IsCutNow}
 use Rattle.fib_save.proofs.Taking.{Taking}
 use Rattle.fib_save.proofs.input.take_through.Given as goal
 
@@ -16,7 +16,7 @@ invariant-loop-more g l = record {
   cut : IsCutNow l.reader;
   same : g.I.Inputs.content l.inputs ≡ g.I.Inputs.content l.fn.inputs;
   kept : g.I.Inputs.faults l.inputs ≡ g.I.Inputs.faults l.fn.inputs;
-  made : Makes (g.I.Inputs.reads l.fn.inputs) (g.I.Inputs.reads l.inputs) (Leads l.name 0 l.at);
+  made : Makes (g.I.Inputs.reads l.fn.inputs) (g.I.Inputs.reads l.inputs) (ReadsLead l.name 0 l.at);
   in_time : Makes (g.I.Inputs.reads l.fn.inputs) (g.I.Inputs.reads l.inputs) (AreInTime (g.I.Inputs.content l.fn.inputs l.name) MayGoOn);
 }
 
@@ -31,7 +31,7 @@ invariant-loop-more-2 g l = record {
   stands : Taking (g.I.Inputs.content l.fn.inputs l.name) l.fn.candidates.candidates l.reader l.at l.candidates.candidates;
   same : g.I.Inputs.content l.inputs ≡ g.I.Inputs.content l.fn.inputs;
   kept : g.I.Inputs.faults l.inputs ≡ g.I.Inputs.faults l.fn.inputs;
-  made : Makes (g.I.Inputs.reads l.fn.inputs) (g.I.Inputs.reads l.inputs) (Leads l.name 0 l.at);
+  made : Makes (g.I.Inputs.reads l.fn.inputs) (g.I.Inputs.reads l.inputs) (ReadsLead l.name 0 l.at);
   in_time : Makes (g.I.Inputs.reads l.fn.inputs) (g.I.Inputs.reads l.inputs) (AreInTime (g.I.Inputs.content l.fn.inputs l.name) MayGoOn);
 }
 

@@ -1,7 +1,7 @@
 use Rattle.std.proofs.Common.{[], ◌∷◌, refl}
-use Rattle.fib_words.specs.Commands.{Moves, moves_as as named_moves}
-use Rattle.router_moves.specs.Due.{asked_at, moves_for, names_asked}
-use Rattle.router_moves.specs.Views.{moves_as}
+use Rattle.fib_words.specs.Commands.{Moves, named_moves}
+use Rattle.router_moves.specs.Due.{router_at, moves_for, names_asked}
+use Rattle.router_moves.specs.Views.{shortest_as}
 use Rattle.fib_texts.specs.Comparing.{moves_reply, moves_say}
 use Rattle.fib_due.specs.Due.{Moved}
 use Rattle.fib_due.specs.Owned.{IsNo}
@@ -11,12 +11,12 @@ use Rattle.fib_texts.proofs.moves.moves_for.Goals as goal
 pub returns-clause-due : goal.returns-clause-due
 returns-clause-due g c =
     let named = named_moves c.args.command.now in
-    reply_due moves_as moves_reply (Moved named.steady) (moves_for named.steady) (λ t. refl) (asked_at (g.I.Inputs.content c.args.inputs.now) named.router named.printed) c.moves_to_routes-moves.result c.reply_to.result c.reply_to.ensures c.moves_to_routes-moves.ensures.due
+    reply_due shortest_as moves_reply (Moved named.steady) (moves_for named.steady) (λ t. refl) (router_at (g.I.Inputs.content c.args.inputs.now) named.router named.printed) c.moves_to_routes-moves.result c.reply_to.result c.reply_to.ensures c.moves_to_routes-moves.ensures.due
 
 pub returns-clause-some : goal.returns-clause-some
 returns-clause-some g c =
     let named = named_moves c.args.command.now in
-    moves_some named.steady (asked_at (g.I.Inputs.content c.args.inputs.now) named.router named.printed) c.moves_to_routes-moves.result c.reply_to.result c.reply_to.ensures c.moves_to_routes-moves.ensures.shortest
+    moves_some named.steady (router_at (g.I.Inputs.content c.args.inputs.now) named.router named.printed) c.moves_to_routes-moves.result c.reply_to.result c.reply_to.ensures c.moves_to_routes-moves.ensures.shortest
 
 pub returns-clause-own : goal.returns-clause-own
 returns-clause-own g c = reply_own moves_say (Moves (named_moves c.args.command.now)) (λ n. tt) c.moves_to_routes-moves.result c.reply_to.result c.reply_to.ensures

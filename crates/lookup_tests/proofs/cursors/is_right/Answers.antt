@@ -1,4 +1,4 @@
-use Rattle.poptrie_cursor.proofs.Going.{go_fits}
+use Rattle.poptrie_update.proofs.Going.{go_fits}
 use Rattle.lookup_tests.proofs.cursors.is_right.Goals as goal
 
 pub returns-in-Go : goal.returns-in-Go

@@ -1,4 +1,4 @@
-use Rattle.poptrie_cursor.specs.Cursors.{Dues, FitsAll}
+use Rattle.poptrie_update.specs.Cursors.{Dues, FitsAll}
 use Rattle.lookup_tests.proofs.cursors.starts.Given as goal
 
 abbrev pub invariant-loop-number : goal.invariant-loop-number

@@ -1,4 +1,4 @@
-use Rattle.poptrie_cursor.specs.Cursors.{Dues}
+use Rattle.poptrie_update.specs.Cursors.{Dues}
 use Rattle.lookup_tests.proofs.cursors.starts_then_calls.Goals as goal
 
 pub starts-started-requires-clause-fits : goal.starts-started-requires-clause-fits

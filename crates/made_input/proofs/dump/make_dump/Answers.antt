@@ -3,10 +3,10 @@ use Rattle.std.specs.Prelude.{map, flat_map}
 use Rattle.std.specs.List.{range_with_len}
 use Rattle.made_input.specs.Draws.{state_after}
 use Rattle.made_input.specs.Drawn.{entry_route}
-use Rattle.written_model.specs.Octets.{record_octets}
+use Rattle.wire_model.specs.Octets.{record_octets}
 use Rattle.made_input.specs.Files.{peer_table_body}
 use Rattle.made_input.proofs.MadeReading.{length-table, rib_record}
-use Rattle.made_input.specs.Views.{route_as, entry_record}
+use Rattle.made_input.specs.Views.{drawn_route_as, entry_record}
 use Rattle.made_input.proofs.Records.{alone, piece_put}
 use Rattle.made_input.proofs.Following.{five_more, routes_more, no_step}
 use Rattle.made_input.proofs.dump.make_dump.Goals as goal
@@ -21,7 +21,7 @@ loop-number-init c =
     let body = c.deref.ensures.value ∙ alone c.new-scratch.result.body.items c.put_peers.new.out.items peer_table_body c.new-scratch.ensures c.in_ok-put_peers.ensures in
     record {
       put = alone c.in_ok-out.out.items c.put_record.new.out.items (record_octets 13 1 c.deref.result.now) c.in_ok-out.ensures.items c.in_ok-put_record.ensures ∙ (ap (record_octets 13 1) body ∙ sym (append-nil (record_octets 13 1 peer_table_body)));
-      drawn = ap (map route_as) c.in_ok-routes.ensures.items;
+      drawn = ap (map drawn_route_as) c.in_ok-routes.ensures.items;
       state = no_step c.args.from.now.state;
     }
 

@@ -1,6 +1,6 @@
 use Rattle.std.proofs.Common.{ℕ, ◌++◌, ap, ◌∙◌}
 use Rattle.std.proofs.lemmas.Result.{on_ok_weaker}
-use Rattle.written_model.specs.Octets.{number_octets}
+use Rattle.wire_model.specs.Octets.{number_octets}
 use Rattle.made_input.proofs.Records.{peer_put}
 use Rattle.made_input.proofs.dump.put_peer.Goals as goal
 

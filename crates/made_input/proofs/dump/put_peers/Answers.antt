@@ -1,7 +1,7 @@
 use Rattle.std.proofs.Common.{◌≡◌, ◌++◌, ap, sym, ◌∙◌, append-nil, arith}
 use Rattle.std.specs.Prelude.{flat_map}
 use Rattle.std.specs.List.{range_with_len}
-use Rattle.written_model.specs.Octets.{number_octets}
+use Rattle.wire_model.specs.Octets.{number_octets}
 use Rattle.made_input.specs.Files.{peer_entry}
 use Rattle.made_input.proofs.Records.{piece_put, table_put}
 use Rattle.made_input.proofs.dump.put_peers.Goals as goal

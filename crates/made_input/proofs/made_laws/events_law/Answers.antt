@@ -1,6 +1,6 @@
 use Rattle.std.proofs.Common.{◌/◌}
 use Rattle.std.proofs.lemmas.List.FromFn.{length-map-range_with_len}
-use Rattle.reading_model.proofs.Told.{read_events}
+use Rattle.wire_model.proofs.Told.{read_events}
 use Rattle.made_input.specs.Files.{dump_octets, updates_octets}
 use Rattle.made_input.proofs.MadeReading.{dump_read, updates_read}
 use Rattle.made_input.proofs.made_laws.events_law.Goals as goal

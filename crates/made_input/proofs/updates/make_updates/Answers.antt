@@ -1,7 +1,7 @@
 use Rattle.std.proofs.Common.{◌≡◌, [], ◌++◌, ◌<◌, ◌/◌, length, ap, ◌∙◌, arith}
 use Rattle.std.specs.Prelude.{map, flat_map}
 use Rattle.std.specs.List.{range_with_len}
-use Rattle.made_input.specs.Views.{route_as}
+use Rattle.made_input.specs.Views.{drawn_route_as}
 use Rattle.made_input.proofs.Records.{piece_put}
 use Rattle.made_input.proofs.Following.{four_more, no_step, update_of, update_is, update_state_is}
 use Rattle.made_input.proofs.updates.make_updates.Goals as goal
@@ -18,7 +18,7 @@ loop-preserved c =
     let some : 0 < length c.args.routes.now = omega arith in
     record {
       put = λ seed routes state. piece_put (update_of seed n) [] c.loop.out.items c.put_update.new.out.items c.loop.counter (c.loop.invariant.put seed routes state)
-          (c.in_ok-put_update.ensures.put ∙ ap (λ xs. c.loop.out.items ++ xs) (update_is seed n c.loop.counter c.loop.from.state (map route_as c.args.routes.now) routes (update_state_is seed n c.args.from.now.state c.loop.from.state c.loop.counter state c.loop.invariant.state) some));
+          (c.in_ok-put_update.ensures.put ∙ ap (λ xs. c.loop.out.items ++ xs) (update_is seed n c.loop.counter c.loop.from.state (map drawn_route_as c.args.routes.now) routes (update_state_is seed n c.args.from.now.state c.loop.from.state c.loop.counter state c.loop.invariant.state) some));
       state = four_more c.args.from.now.state c.loop.from.state c.put_update.new.from.state c.loop.counter c.loop.invariant.state c.in_ok-put_update.ensures.state;
     }
 

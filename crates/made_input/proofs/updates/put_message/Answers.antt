@@ -1,4 +1,4 @@
-use Rattle.octet_put.proofs.Written.{last_put}
+use Rattle.wire_model.proofs.Written.{last_put}
 use Rattle.made_input.proofs.Records.{message_put}
 use Rattle.made_input.proofs.updates.put_message.Goals as goal
 

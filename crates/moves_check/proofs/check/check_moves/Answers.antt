@@ -4,8 +4,8 @@ use Rattle.cert_model.specs.Views.{row_as}
 use Rattle.cert_check.proofs.Counts.{rows_fit}
 use Rattle.fib_addr.specs.Views.{entry_as}
 use Rattle.fib_delta.specs.Views.{change_as}
-use Rattle.moves_cert.proofs.Verdicts.{verdict_is, verdict_from}
-use Rattle.moves_cert.proofs.Whole.{are_shortest}
+use Rattle.moves_model.proofs.Verdicts.{verdict_is, verdict_from}
+use Rattle.moves_model.proofs.Whole.{are_shortest}
 use Rattle.moves_check.specs.Views.{no_moves_as}
 use Rattle.moves_check.proofs.Wholes.{some_wrong}
 use Rattle.moves_check.proofs.check.check_moves.Goals as goal

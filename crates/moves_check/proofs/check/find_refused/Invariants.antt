@@ -1,6 +1,6 @@
 use Rattle.std.proofs.Common.{◌≡◌, ◌+◌, map, drop}
 use Rattle.fib_delta.specs.Views.{change_as}
-use Rattle.moves_cert.specs.Verdict.{first_refused, changed_by_all}
+use Rattle.moves_model.specs.Verdict.{first_refused, changed_by_all}
 use Rattle.moves_check.proofs.check.find_refused.Given as goal
 
 abbrev pub invariant-loop-i : goal.invariant-loop-i

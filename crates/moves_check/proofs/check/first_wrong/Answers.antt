@@ -9,7 +9,7 @@ use Rattle.cert_check.specs.Runs.{RunsTell}
 use Rattle.cert_model.specs.Views.{row_as}
 use Rattle.fib_addr.specs.Views.{entry_as}
 use Rattle.fib_delta.specs.Views.{change_as}
-use Rattle.moves_cert.specs.Verdict.{Twice, Apply, first_refused, changed_by_all, answers_differ, wrong_moves_row, too_many}
+use Rattle.moves_model.specs.Verdict.{Twice, Apply, first_refused, changed_by_all, answers_differ, wrong_moves_row, too_many}
 use Rattle.moves_check.specs.Views.{no_moves_as}
 use Rattle.moves_check.proofs.Wholes.{all_then, tells_from, first_once, prefixes_fit}
 use Rattle.moves_check.proofs.check.first_wrong.Goals as goal

@@ -4,7 +4,7 @@ use Rattle.table_model.specs.declared.family.Family.{Family}
 use Rattle.cert_model.specs.Verdict.{all_get}
 use Rattle.cert_check.specs.Runs.{RunsTell}
 use Rattle.fib_addr.specs.Views.{prefix_as}
-use Rattle.moves_cert.specs.Demands.{none_below}
+use Rattle.moves_model.specs.Demands.{none_below}
 use Rattle.moves_check.proofs.rows.is_leaf.Goals as goal
 
 pub returns-then-holds : goal.returns-then-holds

@@ -1,11 +1,11 @@
 use Rattle.std.proofs.Common.{map}
 use Rattle.std.proofs.lemmas.Result.{IfOk-weaker}
 use Rattle.fib_addr.specs.Views.{prefix_as, entry_as}
-use Rattle.moves_cert.specs.Demands.{join_demand}
+use Rattle.moves_model.specs.Demands.{join_demand}
 use Rattle.moves_check.specs.Stack.{demand_as, SameDemand}
 use Rattle.moves_check.proofs.Stacks.{joined_item}
 use Rattle.moves_check.proofs.rows.joint_demand.Goals as goal
-use Rattle.allowed_hops.specs.Views.{allowed_as}
+use Rattle.fib_moves.specs.Views.{allowed_as}
 
 pub returns : goal.returns
 returns c =

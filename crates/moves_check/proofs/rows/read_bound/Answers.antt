@@ -2,7 +2,7 @@ use Rattle.std.proofs.Common.{◌≡◌, [], ◌∷◌, List, sym, ap, subst, �
 use Rattle.std.specs.Prelude.{option_map}
 use Rattle.std.proofs.lemmas.Result.{IfOk-weaker}
 use Rattle.cert_model.specs.Rows.{bound_row}
-use Rattle.moves_cert.specs.Demands.{Demand}
+use Rattle.moves_model.specs.Demands.{Demand}
 use Rattle.moves_check.specs.Views.{no_moves_as}
 use Rattle.moves_check.specs.Stack.{demand_as, demands_as, MovesRowRead}
 use Rattle.moves_check.proofs.Stacks.{bound_empty, bound_more}

@@ -3,7 +3,7 @@ use Rattle.std.specs.Prelude.{option_map}
 use Rattle.std.proofs.lemmas.Result.{IfOk-weaker}
 use Rattle.cert_model.specs.Rows.{join_row}
 use Rattle.fib_addr.specs.Views.{prefix_as}
-use Rattle.moves_cert.specs.Demands.{Demand}
+use Rattle.moves_model.specs.Demands.{Demand}
 use Rattle.moves_check.specs.Views.{no_moves_as}
 use Rattle.moves_check.specs.Stack.{demand_as, demands_as, MovesRowRead}
 use Rattle.moves_check.proofs.Stacks.{join_empty, join_single}

@@ -1,7 +1,7 @@
 use Rattle.std.proofs.Common.{◌≡◌, ◌+◌, List, ℕ, Option, None, Some, sym, ap, ◌∙◌, arith, map, drop, length}
 use Rattle.cert_model.specs.Rows.{CertRow}
 use Rattle.cert_model.specs.Views.{row_as}
-use Rattle.moves_cert.specs.Verdict.{Shape, wrong_moves_row}
+use Rattle.moves_model.specs.Verdict.{Shape, wrong_moves_row}
 use Rattle.moves_check.specs.Stack.{demands_as, wrong_in_rest}
 use Rattle.moves_check.specs.Views.{IsFamilyRow}
 use Rattle.moves_check.proofs.Stacks.{rows_after, rows_next, rows_short, went_on, stopped, no_bound, row_at, taken_next}

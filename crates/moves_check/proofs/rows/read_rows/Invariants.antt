@@ -2,7 +2,7 @@ use Rattle.std.proofs.Common.{◌≡◌, ◌+◌, [], map, take, drop}
 use Rattle.std.specs.Prelude.{IsSome}
 use Rattle.table_model.specs.Entries.{Entries}
 use Rattle.cert_model.specs.Views.{row_as}
-use Rattle.moves_cert.specs.Verdict.{wrong_moves_row}
+use Rattle.moves_model.specs.Verdict.{wrong_moves_row}
 use Rattle.moves_check.specs.Stack.{demands_as, wrong_in_rest, IsAsked, EndsWithBound}
 use Rattle.moves_check.proofs.rows.read_rows.Given as goal
 

@@ -2,7 +2,7 @@ use Rattle.std.proofs.Common.{ap, ◌∙◌, map}
 use Rattle.std.proofs.lemmas.List.{map_push}
 use Rattle.fib_prefix.specs.Views.{peer_as}
 use Rattle.std.proofs.lemmas.Result.{err_from_is_err_and}
-use Rattle.reading_model.specs.Rib.{peer_at}
+use Rattle.wire_model.specs.Rib.{peer_at}
 use Rattle.octet_fields.proofs.Steps.{more_next, more_fault, times_done}
 use Rattle.mrt_records.proofs.peer_table.peers.Goals as goal
 

@@ -2,7 +2,7 @@ use Rattle.std.proofs.Common.{◌≡◌, ◌-◌, []}
 use Rattle.octet_fields.specs.Field.{times, one_more}
 use Rattle.std.specs.Prelude.{map}
 use Rattle.fib_prefix.specs.Views.{peer_as}
-use Rattle.reading_model.specs.Rib.{peer_at}
+use Rattle.wire_model.specs.Rib.{peer_at}
 use Rattle.mrt_records.proofs.peer_table.peers.Given as goal
 
 abbrev pub invariant-loop : goal.invariant-loop

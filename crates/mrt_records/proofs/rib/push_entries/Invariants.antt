@@ -4,7 +4,7 @@ use Rattle.std.specs.Prelude.{map}
 use Rattle.fib_addr.specs.Views.{prefix_as}
 use Rattle.fib_prefix.specs.Views.{peer_as, event_as}
 use Rattle.route_model.specs.Events.{Event}
-use Rattle.reading_model.specs.Rib.{rib_entry_at}
+use Rattle.wire_model.specs.Rib.{rib_entry_at}
 use Rattle.mrt_records.proofs.rib.push_entries.Given as goal
 
 abbrev pub invariant-loop : goal.invariant-loop

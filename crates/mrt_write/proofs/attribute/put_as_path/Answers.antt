@@ -1,8 +1,8 @@
 use Rattle.std.proofs.Common.{◌≡◌, ◌++◌, length, ap, ◌∙◌, arith}
-use Rattle.saved_model.specs.Entries.{path_octets}
-use Rattle.saved_model.proofs.Paths.{length-path}
+use Rattle.mrt_write.specs.Entries.{path_octets}
+use Rattle.mrt_write.proofs.Paths.{length-path}
 use Rattle.mrt_write.specs.Views.{as_path_of}
-use Rattle.octet_put.proofs.Written.{after_put}
+use Rattle.wire_model.proofs.Written.{after_put}
 use Rattle.mrt_write.proofs.Written.{path_none, path_some}
 use Rattle.mrt_write.proofs.attribute.put_as_path.Goals as goal
 

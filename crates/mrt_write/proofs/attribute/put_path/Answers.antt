@@ -1,7 +1,7 @@
 use Rattle.std.proofs.Common.{◌≡◌, ◌/◌, ◌%◌, ◌++◌, ap, sym, ◌∙◌, append-nil, arith}
 use Rattle.std.proofs.lemmas.Bool.{ne_eqb}
-use Rattle.written_model.specs.Octets.{as_path_octets}
-use Rattle.octet_put.proofs.Written.{after_put}
+use Rattle.wire_model.specs.Octets.{as_path_octets}
+use Rattle.wire_model.proofs.Written.{after_put}
 use Rattle.mrt_write.proofs.Written.{sequences, sequence_put, path_whole, path_rest}
 use Rattle.mrt_write.proofs.attribute.put_path.Goals as goal
 

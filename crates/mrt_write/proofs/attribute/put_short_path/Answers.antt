@@ -1,6 +1,6 @@
 use Rattle.std.proofs.Common.{◌+◌, ◌*◌, ◌++◌, ap, ◌∙◌}
-use Rattle.written_model.specs.Octets.{as_path_octets}
-use Rattle.octet_put.proofs.Written.{after_put}
+use Rattle.wire_model.specs.Octets.{as_path_octets}
+use Rattle.wire_model.proofs.Written.{after_put}
 use Rattle.mrt_write.proofs.Written.{three_behind}
 use Rattle.mrt_write.proofs.Lengths.{short_put}
 use Rattle.mrt_write.proofs.attribute.put_short_path.Goals as goal

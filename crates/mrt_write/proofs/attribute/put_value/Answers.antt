@@ -1,6 +1,6 @@
 use Rattle.std.proofs.Common.{◌++◌, length, ap, ◌∙◌, arith}
-use Rattle.written_model.specs.Octets.{behind_length}
-use Rattle.octet_put.proofs.Written.{last_put, after_put}
+use Rattle.wire_model.specs.Octets.{behind_length}
+use Rattle.wire_model.proofs.Written.{last_put, after_put}
 use Rattle.mrt_write.proofs.Written.{three_behind, value_short, value_long}
 use Rattle.mrt_write.proofs.attribute.put_value.Goals as goal
 

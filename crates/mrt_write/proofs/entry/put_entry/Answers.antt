@@ -1,5 +1,5 @@
 use Rattle.std.proofs.Common.{refl, ◌∙◌}
-use Rattle.saved_model.specs.Entries.{attributes_of}
+use Rattle.mrt_write.specs.Entries.{attributes_of}
 use Rattle.fib_prefix.specs.Views.{cand_as}
 use Rattle.mrt_write.proofs.Written.{on_ok, entry_put}
 use Rattle.mrt_write.proofs.entry.put_entry.Goals as goal

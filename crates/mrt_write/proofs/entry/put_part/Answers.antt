@@ -1,6 +1,6 @@
 use Rattle.std.proofs.Common.{length, ap, arith}
-use Rattle.saved_model.specs.Entries.{attributes_of}
-use Rattle.saved_model.proofs.Attributes.{length-attributes}
+use Rattle.mrt_write.specs.Entries.{attributes_of}
+use Rattle.mrt_write.proofs.Attributes.{length-attributes}
 use Rattle.fib_prefix.specs.Views.{cand_as}
 use Rattle.mrt_write.proofs.Written.{part_is}
 use Rattle.mrt_write.proofs.entry.put_part.Goals as goal

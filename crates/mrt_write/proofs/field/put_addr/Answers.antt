@@ -1,8 +1,8 @@
 use Rattle.std.proofs.Common.{ap, ◌∙◌, ◌++◌}
 use Rattle.table_model.specs.declared.family.Family.TheVariants.{V4, V6}
 use Rattle.fib_addr.specs.Views.{addr_as}
-use Rattle.written_model.specs.Octets.{number_octets, address_octets}
-use Rattle.octet_put.proofs.Written.{after_put, last_put}
+use Rattle.wire_model.specs.Octets.{number_octets, address_octets}
+use Rattle.wire_model.proofs.Written.{after_put, last_put}
 use Rattle.mrt_write.proofs.Written.{addr_written}
 use Rattle.mrt_write.proofs.field.put_addr.Goals as goal
 

@@ -1,6 +1,6 @@
 use Rattle.std.proofs.Common.{rules, append_assoc}
 use Rattle.std.proofs.lemmas.Result.{IfOk-equal}
-use Rattle.saved_model.specs.Entries.{table_peer}
+use Rattle.mrt_write.specs.Entries.{table_peer}
 use Rattle.mrt_write.proofs.peers.put_peer.Goals as goal
 
 pub returns : goal.returns

@@ -1,7 +1,7 @@
 use Rattle.std.proofs.Common.{◌≡◌, ap, sym, ◌∙◌, ◌++◌, ◌%◌, ◌^◌, arith}
 use Rattle.table_model.specs.Address.{Prefix}
 use Rattle.fib_addr.specs.Views.{prefix_as}
-use Rattle.written_model.specs.Octets.{number_octets, record_octets}
+use Rattle.wire_model.specs.Octets.{number_octets, record_octets}
 use Rattle.mrt_write.proofs.Written.{on_ok, body_is, body_few, record_is}
 use Rattle.mrt_write.proofs.record.put_rib.Goals as goal
 

@@ -3,14 +3,14 @@ use Rattle.table_model.specs.Sets.{is_in}
 use Rattle.table_model.specs.Bits.{bits_of}
 use Rattle.table_model.specs.Table.{lpm}
 use Rattle.orig_tree.specs.Edits.{put}
-use Rattle.orig_tree.specs.Bests.{Stands}
+use Rattle.orig_tree.specs.Bests.{IsRegionBest}
 use Rattle.orig_tree.specs.declared.best.Best.{Best}
 use Rattle.orig_tree.proofs.Standing.{beside_here, beside_below}
 use Rattle.orig_tree.proofs.best.beside.Goals as goal
 use Rattle.orig_tree.proofs.best.beside.Goals.{then-left-eq1, else-left-eq1}
 
 pub returns-then-left-eq0 : goal.returns-then-left-eq0
-returns-then-left-eq0 c = λ d q l. subst (λ (x : Best). Stands d (λ a. lpm (put (bits_of c.args.left q) c.args.hop []) a c.args.inherited) x) (sym c.one.ensures)
+returns-then-left-eq0 c = λ d q l. subst (λ (x : Best). IsRegionBest d (λ a. lpm (put (bits_of c.args.left q) c.args.hop []) a c.args.inherited) x) (sym c.one.ensures)
     (beside_here c.args.hop c.args.inherited c.args.left d q c.if-left-eq0.true l)
 
 pub returns : goal.returns

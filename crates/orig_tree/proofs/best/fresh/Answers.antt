@@ -2,14 +2,14 @@ use Rattle.std.proofs.Common.{ℕ, sym, ap, ◌∙◌, subst, refl, [], Option, 
 use Rattle.table_model.specs.Bits.{bits_of}
 use Rattle.table_model.specs.Table.{lpm}
 use Rattle.orig_tree.specs.Edits.{edit}
-use Rattle.orig_tree.specs.Bests.{Stands, best_one}
+use Rattle.orig_tree.specs.Bests.{IsRegionBest, best_one}
 use Rattle.orig_tree.specs.declared.best.Best.{Best}
 use Rattle.orig_tree.proofs.Standing.{stands_one, lone_same}
 use Rattle.orig_tree.proofs.best.fresh.Goals as goal
 
 -- what stands for the region of one route
 Fresh : ℕ → ℕ → ℕ → ℕ → Option ℕ → Best → Type 0
-Fresh left d q h set x = Stands d (λ a. lpm (edit (bits_of left q) set []) a h) x
+Fresh left d q h set x = IsRegionBest d (λ a. lpm (edit (bits_of left q) set []) a h) x
 
 pub returns-in-None : goal.returns-in-None
 unfolding Fresh

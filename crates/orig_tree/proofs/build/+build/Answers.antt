@@ -3,7 +3,7 @@ use Rattle.std.proofs.lemmas.List.{length-append}
 use Rattle.table_model.specs.Halves.{half_at}
 use Rattle.table_model.specs.Width.{width}
 use Rattle.fib_addr.specs.Views.{entry_as, prefix_as}
-use Rattle.orig_tree.specs.Arena.{cells_of, blank}
+use Rattle.orig_tree.specs.Arena.{cells_of, blank_cell}
 use Rattle.orig_tree.specs.Bests.{best_in}
 use Rattle.orig_tree.proofs.Telling.{half_longer, half_most}
 use Rattle.orig_tree.proofs.Building.{makes_alone, makes_over, builds_at, builds_bare, builds_half}
@@ -89,7 +89,7 @@ build-returns-in_ok-put_over-in-Some-false-2-clause-built t c =
     c.in_ok-low-in-Some-false.ensures.built c.in_ok-high-in-Some-false.ensures.built done.best)
 
 pub build_half-build-requires : goal.build_half-build-requires
-build_half-build-requires t c = (omega (arith, half_longer c.args.at.now c.half-half.result c.args.bit c.half-half.ensures, half_most c.half-half.result), (omega (arith, c.in_ok-place.ensures.place, c.in_ok-place.ensures.same, ap length c.in_ok-place.ensures.node, length-append (cells_of c.args.nodes.now) (blank ∷ [])), c.in_ok-place.ensures.same))
+build_half-build-requires t c = (omega (arith, half_longer c.args.at.now c.half-half.result c.args.bit c.half-half.ensures, half_most c.half-half.result), (omega (arith, c.in_ok-place.ensures.place, c.in_ok-place.ensures.same, ap length c.in_ok-place.ensures.node, length-append (cells_of c.args.nodes.now) (blank_cell ∷ [])), c.in_ok-place.ensures.same))
 
 pub build_half-returns-clause-built : goal.build_half-returns-clause-built
 build_half-returns-clause-built t c =

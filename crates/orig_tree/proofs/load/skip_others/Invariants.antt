@@ -1,6 +1,6 @@
 use Rattle.std.proofs.Common.{◌≡◌, map, length}
 use Rattle.fib_addr.specs.Views.{entry_as}
-use Rattle.orig_tree.specs.Woven.{own_of}
+use Rattle.orig_tree.specs.Merged.{own_of}
 use Rattle.orig_tree.proofs.load.skip_others.Given as goal
 
 abbrev pub invariant-loop-left : goal.invariant-loop-left

@@ -1,7 +1,7 @@
 use Rattle.std.proofs.Common.{◌≡◌, ℕ, suc, ◌-◌, List, Bool, true, arith, refl, sym, ◌∙◌}
 use Rattle.std.proofs.lemmas.Result.{IfOk-weaker}
 use Rattle.table_model.specs.Table.{lpm}
-use Rattle.orig_tree.specs.Arena.{cells_of, half_place, Place, IfHalf, IsTree, walks_at, from_half}
+use Rattle.orig_tree.specs.Arena.{cells_of, half_place, Owner, IfHalf, IsTree, walks_at, from_half}
 use Rattle.orig_tree.specs.Bests.{best_in, changed, under, AreBest, Untouched, IsMended, HalfMended}
 use Rattle.orig_tree.specs.Packed.{cover_in}
 use Rattle.orig_tree.proofs.Mending.{mend_end, mend_node, half_none, half_stays, half_mended, open_own}
@@ -25,7 +25,7 @@ mend_half-returns-else-is_open-clause-best g t c =
     let S0 = changed c.args.out.now.items S in
     let cells = cells_of c.args.nodes.now in
     IfOk-weaker c.copied.result (λ x. x ≡ c.best_at.result.now)
-    (λ x. (name : ℕ → Place) (p : List Bool) (h : ℕ) → IfHalf (λ j. IsTree (suc c.args.depth) cells name j p) c.args.half → IfHalf (λ j. AreBest (suc c.args.depth) cells S (λ a. lpm (walks_at (suc c.args.depth) cells j).routes a h) j) c.args.half → Untouched p name S S0 →
+    (λ x. (name : ℕ → Owner) (p : List Bool) (h : ℕ) → IfHalf (λ j. IsTree (suc c.args.depth) cells name j p) c.args.half → IfHalf (λ j. AreBest (suc c.args.depth) cells S (λ a. lpm (walks_at (suc c.args.depth) cells j).routes a h) j) c.args.half → Untouched p name S S0 →
     HalfMended c.args.depth cells name c.args.half p (λ a. lpm (from_half (walks_at (suc c.args.depth) cells) c.args.half).routes a c.args.hop) S0 S0 x)
     (λ x e name p h s k u. half_stays cells c.args.depth c.args.hop c.args.half c.in-Some.j c.read.result c.read.ensures c.in-Some.is name p h S S0 x (sym c.is_open.ensures ∙ c.if-is_open.false) (e ∙ c.best_at.ensures) s k u)
     c.copied.ensures
@@ -38,9 +38,9 @@ mend_half-returns-then-is_open-clause-best g t c =
     let S1 = changed c.mend.new.out.items S in
     let cells = cells_of c.args.nodes.now in
     IfOk-weaker c.mend.result
-    (λ x. (name : ℕ → Place) (p : List Bool) (h : ℕ) → IsTree (suc c.args.depth) cells name c.in-Some.j p → AreBest (suc c.args.depth) cells S (λ a. lpm (walks_at (suc c.args.depth) cells c.in-Some.j).routes a h) c.in-Some.j → Untouched p name S S0 →
+    (λ x. (name : ℕ → Owner) (p : List Bool) (h : ℕ) → IsTree (suc c.args.depth) cells name c.in-Some.j p → AreBest (suc c.args.depth) cells S (λ a. lpm (walks_at (suc c.args.depth) cells c.in-Some.j).routes a h) c.in-Some.j → Untouched p name S S0 →
     IsMended c.args.depth cells name c.in-Some.j p (under c.args.hop (walks_at (suc c.args.depth) cells c.in-Some.j).routes) S0 S1 x)
-    (λ x. (name : ℕ → Place) (p : List Bool) (h : ℕ) → IfHalf (λ j. IsTree (suc c.args.depth) cells name j p) c.args.half → IfHalf (λ j. AreBest (suc c.args.depth) cells S (λ a. lpm (walks_at (suc c.args.depth) cells j).routes a h) j) c.args.half → Untouched p name S S0 →
+    (λ x. (name : ℕ → Owner) (p : List Bool) (h : ℕ) → IfHalf (λ j. IsTree (suc c.args.depth) cells name j p) c.args.half → IfHalf (λ j. AreBest (suc c.args.depth) cells S (λ a. lpm (walks_at (suc c.args.depth) cells j).routes a h) j) c.args.half → Untouched p name S S0 →
     HalfMended c.args.depth cells name c.args.half p (λ a. lpm (from_half (walks_at (suc c.args.depth) cells) c.args.half).routes a c.args.hop) S0 S1 x)
     (λ x m name p h s k u. half_mended cells c.args.depth c.args.hop c.args.half c.in-Some.j c.read.result c.read.ensures c.in-Some.is name p h S S0 S1 x own (λ s' k'. m name p h s' k' u) s k)
     c.mend.ensures.best

@@ -4,8 +4,8 @@ use Rattle.table_model.specs.Bits.{bits_of}
 use Rattle.table_model.specs.Table.{lpm}
 use Rattle.orig_tree.specs.Edits.{edit}
 use Rattle.table_model.specs.Sets.{side}
-use Rattle.orig_tree.specs.Arena.{cells_of, half_place, Place, IfHalf, IsTree, walks_at, from_half}
-use Rattle.orig_tree.specs.Bests.{Stands, best_one, best_in, best_behind, kept_or, changed, AreBest, Untouched, IsMended, HalfMended}
+use Rattle.orig_tree.specs.Arena.{cells_of, half_place, Owner, IfHalf, IsTree, walks_at, from_half}
+use Rattle.orig_tree.specs.Bests.{IsRegionBest, best_one, best_in, best_behind, kept_or, changed, AreBest, Untouched, IsMended, HalfMended}
 use Rattle.orig_tree.specs.declared.best.Best.{Best}
 use Rattle.orig_tree.proofs.Mending.{plan_end, plan_node, way_none, way_some}
 use Rattle.orig_tree.proofs.Stopping.{plan_same, plan_stays}
@@ -34,7 +34,7 @@ plan-returns-then-is_same-clause-best g t c =
     c.args.left c.args.q c.args.inherited c.unwrap_or-hop.result c.args.set c.if-left-eq0.false c.bit_at-bit.ensures c.unwrap_or-hop.ensures
     S c.args.out.now.items c.plan_half.new.out.items (kept_or c.in_ok-planned.planned old) c.half_best-far.result.now c.in_ok-best.best c.in_ok-planned.ensures.best
     (c.half_best-far.ensures ∙ ap (best_behind S c.half-2.result) c.one-bare.ensures)
-    (λ d f v w. c.in_ok-best.ensures d f (subst (λ (y : Best). Stands d (side c.bit_at-bit.result f) y) (ap (λ o. kept_or o old) c.in-Some.is) v) w)
+    (λ d f v w. c.in_ok-best.ensures d f (subst (λ (y : Best). IsRegionBest d (side c.bit_at-bit.result f) y) (ap (λ o. kept_or o old) c.in-Some.is) v) w)
     (c.is_same.ensures c.if-is_same.true ∙ c.best_at.ensures)
 
 pub plan-returns-clause-best : goal.plan-returns-clause-best
@@ -45,7 +45,7 @@ plan-returns-clause-best g t c =
     c.args.left c.args.q c.args.inherited c.unwrap_or-hop.result c.args.set c.if-left-eq0.false c.bit_at-bit.ensures c.unwrap_or-hop.ensures
     S c.args.out.now.items c.plan_half.new.out.items c.note.new.out.items (kept_or c.in_ok-planned.planned old) c.half_best-far.result.now c.in_ok-best.best
     c.in_ok-planned.ensures.best (c.half_best-far.ensures ∙ ap (best_behind S c.half-2.result) c.one-bare.ensures)
-    (λ d f v w. c.in_ok-best.ensures d f (subst (λ (y : Best). Stands d (side c.bit_at-bit.result f) y) (ap (λ o. kept_or o old) c.in-Some.is) v) w)
+    (λ d f v w. c.in_ok-best.ensures d f (subst (λ (y : Best). IsRegionBest d (side c.bit_at-bit.result f) y) (ap (λ o. kept_or o old) c.in-Some.is) v) w)
     c.in_ok-note.ensures
 
 pub plan_half-returns-in-None-clause-best : goal.plan_half-returns-in-None-clause-best
@@ -91,8 +91,8 @@ plan_half-returns-in-Some-clause-best g t c =
     let S1 = changed c.plan.new.out.items S in
     let cells = cells_of c.args.nodes.now in
     IfOk-weaker c.plan.result
-    (λ x. (name : ℕ → Place) (p : List Bool) → IsTree (suc c.args.depth) cells name c.in-Some.j p → AreBest (suc c.args.depth) cells S (λ a. lpm (walks_at (suc c.args.depth) cells c.in-Some.j).routes a c.args.inherited) c.in-Some.j → Untouched p name S S0 →
+    (λ x. (name : ℕ → Owner) (p : List Bool) → IsTree (suc c.args.depth) cells name c.in-Some.j p → AreBest (suc c.args.depth) cells S (λ a. lpm (walks_at (suc c.args.depth) cells c.in-Some.j).routes a c.args.inherited) c.in-Some.j → Untouched p name S S0 →
     IsMended c.args.depth cells name c.in-Some.j p (λ a. lpm (edit (bits_of c.args.left c.args.q) c.args.set (walks_at (suc c.args.depth) cells c.in-Some.j).routes) a c.args.inherited) S0 S1 (kept_or x (S c.in-Some.j)))
-    (λ x. (name : ℕ → Place) (p : List Bool) → IfHalf (λ j. IsTree (suc c.args.depth) cells name j p) c.args.half → IfHalf (λ j. AreBest (suc c.args.depth) cells S (λ a. lpm (walks_at (suc c.args.depth) cells j).routes a c.args.inherited) j) c.args.half → Untouched p name S S0 →
+    (λ x. (name : ℕ → Owner) (p : List Bool) → IfHalf (λ j. IsTree (suc c.args.depth) cells name j p) c.args.half → IfHalf (λ j. AreBest (suc c.args.depth) cells S (λ a. lpm (walks_at (suc c.args.depth) cells j).routes a c.args.inherited) j) c.args.half → Untouched p name S S0 →
     HalfMended c.args.depth cells name c.args.half p (λ a. lpm (edit (bits_of c.args.left c.args.q) c.args.set (from_half (walks_at (suc c.args.depth) cells) c.args.half).routes) a c.args.inherited) S0 S1 (kept_or x (best_behind S c.args.half (best_one c.args.inherited))))
     (λ x m. way_some cells c.args.depth c.args.left c.args.q c.args.inherited c.args.set c.args.half c.in-Some.j S S0 S1 x c.in-Some.is m) c.plan.ensures.best

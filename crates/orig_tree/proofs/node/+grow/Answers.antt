@@ -5,7 +5,7 @@ use Rattle.orig_tree.specs.Edits.{edit}
 use Rattle.orig_tree.specs.declared.best.Best.{Best}
 use Rattle.orig_tree.proofs.Standing.{stands_one}
 use Rattle.orig_tree.specs.Arena.{cells_of}
-use Rattle.orig_tree.specs.Bests.{best_in, Stands}
+use Rattle.orig_tree.specs.Bests.{best_in, IsRegionBest}
 use Rattle.orig_tree.proofs.Rooms.{room_end, some_room, none_room}
 use Rattle.orig_tree.proofs.Growing.{grown_end, some_grown, none_grown, within_it, split_inside}
 use Rattle.orig_tree.proofs.Mending.{put_here, put_other}
@@ -43,5 +43,5 @@ returns-in-None-clause-best t c = λ d name n p l s h k.
     c.args.i c.split-j.result d n name p S (best_in c.exchange.new.bests) (best_in c.grow-in-None.new.bests) x c.read-node.ensures c.if-left-eq0.false c.bit_at-bit.ensures c.unwrap_or-hop.ensures gone l s h split
     (λ y r e ne. c.exchange.ensures.kept y (omega (arith, within_it old c.args.nodes.now.free n y name r h e, c.args.nodes.now.halves.ok.0, c.requires.long)) ∙ put_other S c.split-j.result y x ne)
     (c.exchange.ensures.kept c.split-j.result (omega (arith, inside, c.split-j.new.nodes.halves.ok.0, c.split-j.ensures.len, c.requires.long, c.if-left-eq0.false)) ∙ put_here S c.split-j.result x)
-    (λ e q m. subst (λ (y : Best). Stands e (λ a. lpm (edit (bits_of (c.args.left - 1) q) None []) a c.unwrap_or-hop.result) y) (sym c.one-best.ensures) (stands_one e c.unwrap_or-hop.result (λ a. c.unwrap_or-hop.result) (λ a l. refl)))
+    (λ e q m. subst (λ (y : Best). IsRegionBest e (λ a. lpm (edit (bits_of (c.args.left - 1) q) None []) a c.unwrap_or-hop.result) y) (sym c.one-best.ensures) (stands_one e c.unwrap_or-hop.result (λ a. c.unwrap_or-hop.result) (λ a l. refl)))
     (λ e n1 m v u w a. c.grow-in-None.ensures.nodes e n1 m v u w a) (λ e n1 m v u w a o. c.grow-in-None.ensures.best e n1 m v u w a o) k

@@ -3,7 +3,7 @@ use Rattle.table_model.specs.Bits.{bits_of}
 use Rattle.table_model.specs.Table.{lpm}
 use Rattle.orig_tree.specs.Edits.{edit}
 use Rattle.orig_tree.specs.Arena.{cells_of}
-use Rattle.orig_tree.specs.Bests.{best_in, Stands}
+use Rattle.orig_tree.specs.Bests.{best_in, IsRegionBest}
 use Rattle.orig_tree.specs.Placed.{route_set}
 use Rattle.orig_tree.proofs.Growing.{within_it, split_inside}
 use Rattle.orig_tree.proofs.Mending.{put_here, put_other}
@@ -13,9 +13,9 @@ use Rattle.orig_tree.proofs.node.+grow_label.Goals as goal
 
 pub returns-then-left-eq0-clause-made : goal.returns-then-left-eq0-clause-made
 returns-then-left-eq0-clause-made g t c = λ d name n p l s h.
-    placed_free d c.args.label _ c.args.hop _ _ _ _ name c.args.i p _ _ _ _ c.renew.ensures.free (
-    placed_end c.args.label c.args.left c.args.q c.args.hop c.read-node.result _ (cells_of c.args.nodes.now) (cells_of c.renew.new.nodes) c.args.nodes.now.free c.args.i d n name p _ (best_in c.args.bests.now) c.renew.result
-    c.read-node.ensures c.if-left-eq0.true refl c.renew.ensures.cells c.renew.ensures.same l s h)
+    placed_free d c.args.label _ c.args.hop _ _ _ _ name c.args.i p _ _ _ _ c.update_node.ensures.free (
+    placed_end c.args.label c.args.left c.args.q c.args.hop c.read-node.result _ (cells_of c.args.nodes.now) (cells_of c.update_node.new.nodes) c.args.nodes.now.free c.args.i d n name p _ (best_in c.args.bests.now) c.update_node.result
+    c.read-node.ensures c.if-left-eq0.true refl c.update_node.ensures.cells c.update_node.ensures.same l s h)
 
 pub returns-in-Some-clause-made : goal.returns-in-Some-clause-made
 returns-in-Some-clause-made g t c = λ d name n p l s h.
@@ -39,7 +39,7 @@ returns-in-None-clause-made g t c = λ d name n p l s h.
     c.read-node.ensures c.if-left-eq0.false c.bit_at-bit.ensures c.unwrap_or-below.ensures gone l s split
     (λ y r e ne. c.exchange.ensures.kept y (omega (arith, within_it old c.args.nodes.now.free n y name r h e, c.args.nodes.now.halves.ok.0, c.requires.long)) ∙ put_other S c.split-j.result y x ne)
     (c.exchange.ensures.kept c.split-j.result (omega (arith, inside, c.split-j.new.nodes.halves.ok.0, c.split-j.ensures.len, c.requires.long, c.if-left-eq0.false)) ∙ put_here S c.split-j.result x)
-    (λ e q m. (subst (λ (o : Option ℕ). Stands e (λ a. lpm (edit (bits_of (c.args.left - 1) q) o []) a c.unwrap_or-below.result) x) c.route.ensures (c.fresh-best.ensures e q m)))
+    (λ e q m. (subst (λ (o : Option ℕ). IsRegionBest e (λ a. lpm (edit (bits_of (c.args.left - 1) q) o []) a c.unwrap_or-below.result) x) c.route.ensures (c.fresh-best.ensures e q m)))
     (λ e n1 m v u w a. c.grow_label-changed-in-None.ensures.made e n1 m v u w a) c.climb-in-None.ensures.climbs)
 
 pub returns-in-Some-clause-steps : goal.returns-in-Some-clause-steps

@@ -10,9 +10,9 @@ use Rattle.orig_tree.proofs.node.+set_label.Goals as goal
 
 pub returns-then-left-eq0-clause-made : goal.returns-then-left-eq0-clause-made
 returns-then-left-eq0-clause-made t c = λ d name n p l s h.
-    placed_free d c.args.label _ c.args.hop _ _ _ _ name c.args.i p _ _ _ _ c.renew.ensures.free (
-    placed_end c.args.label c.args.left c.args.q c.args.hop c.read-node.result _ (cells_of c.args.nodes.now) (cells_of c.renew.new.nodes) c.args.nodes.now.free c.args.i d n name p _ (best_in c.args.bests.now) c.renew.result
-    c.read-node.ensures c.if-left-eq0.true refl c.renew.ensures.cells c.renew.ensures.same l s h)
+    placed_free d c.args.label _ c.args.hop _ _ _ _ name c.args.i p _ _ _ _ c.update_node.ensures.free (
+    placed_end c.args.label c.args.left c.args.q c.args.hop c.read-node.result _ (cells_of c.args.nodes.now) (cells_of c.update_node.new.nodes) c.args.nodes.now.free c.args.i d n name p _ (best_in c.args.bests.now) c.update_node.result
+    c.read-node.ensures c.if-left-eq0.true refl c.update_node.ensures.cells c.update_node.ensures.same l s h)
 
 pub returns-in_err-changed-in-Some-clause-held : goal.returns-in_err-changed-in-Some-clause-held
 returns-in_err-changed-in-Some-clause-held t c = λ d l there. let no : false ≡ true = held_half (false ≡ true) (cells_of c.args.nodes.now) c.read-node.result c.args.i c.args.left c.args.q c.bit_at.result c.half.result d c.read-node.ensures c.half.ensures c.if-left-eq0.false c.bit_at.ensures

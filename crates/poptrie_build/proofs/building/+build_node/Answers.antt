@@ -1,8 +1,8 @@
 use Rattle.std.proofs.Common.{rules, arith, refl, ◌≡◌, ◌∙◌, ap, sym, subst, ◌+◌, ◌<◌, None, Some, ℕ, set, ◌*◌}
 use Rattle.poptrie_build.specs.Strides.{slots, mixed}
-use Rattle.block_pool.specs.Powers.{up}
+use Rattle.buddy_arena.specs.Powers.{up}
 use Rattle.poptrie_build.specs.Need.{children}
-use Rattle.poptrie_build.specs.Making.{kind_in}
+use Rattle.poptrie_build.specs.Making.{slot_kind}
 use Rattle.poptrie_build.specs.Stands.{blank}
 use Rattle.poptrie_build.proofs.Directing.{never, keeps_all, keeps_both}
 use Rattle.poptrie_build.proofs.Going.{child_none, child_less, leaf_room, node_room, leaf_written, node_written, at_end_stands, going_start, state}
@@ -10,7 +10,7 @@ use Rattle.poptrie_build.proofs.Walk.{rank_more}
 use Rattle.poptrie_build.proofs.Parted.{parted_start, parted_leaf, parted_node, nodes_parted, leaves_parted, rank_fits}
 use Rattle.poptrie_build.proofs.Counting.{Counted, canonical_same, children_same, runs_same, count_start, count_leaf, count_node, nodes_end, leaves_end, nodes_refused, leaves_refused, child_fits, kinds_agree, block_small, descended_slot, six_bits}
 use Rattle.buddy_arena.specs.Space.{Space, IsSized}
-use Rattle.block_pool.specs.Places.{is_out}
+use Rattle.buddy_arena.specs.Places.{is_out}
 use Rattle.poptrie_build.specs.declared.node.Node.{Node}
 use Rattle.poptrie_build.proofs.building.+build_node.Goals.{in-Some, in-None+in_ok-node-in-None}
 use Rattle.poptrie_build.proofs.building.+build_node.Goals as goal
@@ -18,20 +18,20 @@ use Rattle.poptrie_build.proofs.building.+build_node.Goals as goal
 pub returns-in_err-base1-clause-fits : goal.returns-in_err-base1-clause-fits
 returns-in_err-base1-clause-fits g t c =
     let a = kinds_agree (g.R.Region.bits c.args.region.now) (g.R.Region.answers c.args.region.now) c.ask.new.slots c.ask.ensures in
-    let cs = children_same c.make_vectors-made.result.nodes (kind_in c.ask.new.slots) (slots (g.R.Region.bits c.args.region.now) (g.R.Region.answers c.args.region.now)) a c.make_vectors-made.ensures.nodes in
+    let cs = children_same c.make_vectors-made.result.nodes (slot_kind c.ask.new.slots) (slots (g.R.Region.bits c.args.region.now) (g.R.Region.answers c.args.region.now)) a c.make_vectors-made.ensures.nodes in
     λ k h fn fl n l. absurd (nodes_refused _ _ k _ _ c.requires.mixed cs h (c.in_err-base1.ensures.refused fn) n)
 
 pub returns-in_err-base0-clause-fits : goal.returns-in_err-base0-clause-fits
 returns-in_err-base0-clause-fits g t c =
     let a = kinds_agree (g.R.Region.bits c.args.region.now) (g.R.Region.answers c.args.region.now) c.ask.new.slots c.ask.ensures in
-    let rs = runs_same c.make_vectors-made.result.leaves (kind_in c.ask.new.slots) (slots (g.R.Region.bits c.args.region.now) (g.R.Region.answers c.args.region.now)) a c.make_vectors-made.ensures.leaves in
+    let rs = runs_same c.make_vectors-made.result.leaves (slot_kind c.ask.new.slots) (slots (g.R.Region.bits c.args.region.now) (g.R.Region.answers c.args.region.now)) a c.make_vectors-made.ensures.leaves in
     λ k h fn fl n l. absurd (leaves_refused _ _ k _ _ c.requires.mixed rs h (c.in_err-base0.ensures.refused fl) l)
 
 pub loop-slot-init : goal.loop-slot-init
 loop-slot-init g t c =
     let a = kinds_agree (g.R.Region.bits c.args.region.now) (g.R.Region.answers c.args.region.now) c.ask.new.slots c.ask.ensures in
-    let rs = runs_same c.make_vectors-made.result.leaves (kind_in c.ask.new.slots) (slots (g.R.Region.bits c.args.region.now) (g.R.Region.answers c.args.region.now)) a c.make_vectors-made.ensures.leaves in
-    let cs = children_same c.make_vectors-made.result.nodes (kind_in c.ask.new.slots) (slots (g.R.Region.bits c.args.region.now) (g.R.Region.answers c.args.region.now)) a c.make_vectors-made.ensures.nodes in (
+    let rs = runs_same c.make_vectors-made.result.leaves (slot_kind c.ask.new.slots) (slots (g.R.Region.bits c.args.region.now) (g.R.Region.answers c.args.region.now)) a c.make_vectors-made.ensures.leaves in
+    let cs = children_same c.make_vectors-made.result.nodes (slot_kind c.ask.new.slots) (slots (g.R.Region.bits c.args.region.now) (g.R.Region.answers c.args.region.now)) a c.make_vectors-made.ensures.nodes in (
       going_start _ _ _ _ _ _ _ _ _ _ _ _ _ _ cs rs c.in_ok-base1.ensures.takes c.in_ok-base0.ensures.takes c.take_places.ensures.still c.take_places-2.ensures.still c.take_places.ensures.cells c.take_places-2.ensures.cells,
       count_start _ _ _ _ _ _ _ _ cs rs c.in_ok-base1.ensures.left c.in_ok-base0.ensures.left c.take_places.ensures.fresh c.take_places-2.ensures.fresh c.take_places.ensures.sized c.take_places-2.ensures.sized
           c.take_places.ensures.order c.take_places-2.ensures.order c.take_places.ensures.fill c.take_places-2.ensures.fill,
@@ -41,47 +41,47 @@ loop-slot-init g t c =
 pub overflow_add-base0 : goal.overflow_add-base0
 overflow_add-base0 g t c =
     let a = kinds_agree (g.R.Region.bits c.args.region.now) (g.R.Region.answers c.args.region.now) c.ask.new.slots c.ask.ensures in
-    let some : Some c.in-Some.hop ≡ slots (g.R.Region.bits c.args.region.now) (g.R.Region.answers c.args.region.now) c.loop-slot.slot = sym c.in-Some.is ∙ (ap (kind_in c.ask.new.slots) c.from.ensures ∙ a c.loop-slot.slot c.loop-slot-test.true) in
-    let can = canonical_same c.make_vectors-made.result.vector c.make_vectors-made.result.leafvec (kind_in c.ask.new.slots) (slots (g.R.Region.bits c.args.region.now) (g.R.Region.answers c.args.region.now)) a c.make_vectors-made.ensures.canonical in
+    let some : Some c.in-Some.hop ≡ slots (g.R.Region.bits c.args.region.now) (g.R.Region.answers c.args.region.now) c.loop-slot.slot = sym c.in-Some.is ∙ (ap (slot_kind c.ask.new.slots) c.from.ensures ∙ a c.loop-slot.slot c.loop-slot-test.true) in
+    let can = canonical_same c.make_vectors-made.result.vector c.make_vectors-made.result.leafvec (slot_kind c.ask.new.slots) (slots (g.R.Region.bits c.args.region.now) (g.R.Region.answers c.args.region.now)) a c.make_vectors-made.ensures.canonical in
     let r = leaf_room _ _ _ _ _ _ _ _ _ _ _ _ c.loop-slot-test.true some can c.rank.ensures c.loop-slot.invariant.0 in
-    let rs = runs_same c.make_vectors-made.result.leaves (kind_in c.ask.new.slots) (slots (g.R.Region.bits c.args.region.now) (g.R.Region.answers c.args.region.now)) a c.make_vectors-made.ensures.leaves in
+    let rs = runs_same c.make_vectors-made.result.leaves (slot_kind c.ask.new.slots) (slots (g.R.Region.bits c.args.region.now) (g.R.Region.answers c.args.region.now)) a c.make_vectors-made.ensures.leaves in
     let h : c.in_ok-base0.base0 + c.rank.result < 4294967296 = block_small c.in_ok-base0.base0 c.make_vectors-made.result.leaves c.rank.result _ _ _ _ c.in_ok-base0.ensures.takes c.take_places-2.ensures.sized.cells c.take_places-2.ensures.sized.small (omega (arith, r.most, rs)) in
     omega (arith, h)
 
 pub overflow_sub-base0 : goal.overflow_sub-base0
 overflow_sub-base0 g t c =
     let a = kinds_agree (g.R.Region.bits c.args.region.now) (g.R.Region.answers c.args.region.now) c.ask.new.slots c.ask.ensures in
-    let some : Some c.in-Some.hop ≡ slots (g.R.Region.bits c.args.region.now) (g.R.Region.answers c.args.region.now) c.loop-slot.slot = sym c.in-Some.is ∙ (ap (kind_in c.ask.new.slots) c.from.ensures ∙ a c.loop-slot.slot c.loop-slot-test.true) in
-    let can = canonical_same c.make_vectors-made.result.vector c.make_vectors-made.result.leafvec (kind_in c.ask.new.slots) (slots (g.R.Region.bits c.args.region.now) (g.R.Region.answers c.args.region.now)) a c.make_vectors-made.ensures.canonical in
+    let some : Some c.in-Some.hop ≡ slots (g.R.Region.bits c.args.region.now) (g.R.Region.answers c.args.region.now) c.loop-slot.slot = sym c.in-Some.is ∙ (ap (slot_kind c.ask.new.slots) c.from.ensures ∙ a c.loop-slot.slot c.loop-slot-test.true) in
+    let can = canonical_same c.make_vectors-made.result.vector c.make_vectors-made.result.leafvec (slot_kind c.ask.new.slots) (slots (g.R.Region.bits c.args.region.now) (g.R.Region.answers c.args.region.now)) a c.make_vectors-made.ensures.canonical in
     let r = leaf_room _ _ _ _ _ _ _ _ _ _ _ _ c.loop-slot-test.true some can c.rank.ensures c.loop-slot.invariant.0 in
     omega (arith, r.some)
 
 pub put-requires-clause-out : goal.put-requires-clause-out
 put-requires-clause-out g t c =
     let a = kinds_agree (g.R.Region.bits c.args.region.now) (g.R.Region.answers c.args.region.now) c.ask.new.slots c.ask.ensures in
-    let some : Some c.in-Some.hop ≡ slots (g.R.Region.bits c.args.region.now) (g.R.Region.answers c.args.region.now) c.loop-slot.slot = sym c.in-Some.is ∙ (ap (kind_in c.ask.new.slots) c.from.ensures ∙ a c.loop-slot.slot c.loop-slot-test.true) in
-    let can = canonical_same c.make_vectors-made.result.vector c.make_vectors-made.result.leafvec (kind_in c.ask.new.slots) (slots (g.R.Region.bits c.args.region.now) (g.R.Region.answers c.args.region.now)) a c.make_vectors-made.ensures.canonical in
+    let some : Some c.in-Some.hop ≡ slots (g.R.Region.bits c.args.region.now) (g.R.Region.answers c.args.region.now) c.loop-slot.slot = sym c.in-Some.is ∙ (ap (slot_kind c.ask.new.slots) c.from.ensures ∙ a c.loop-slot.slot c.loop-slot-test.true) in
+    let can = canonical_same c.make_vectors-made.result.vector c.make_vectors-made.result.leafvec (slot_kind c.ask.new.slots) (slots (g.R.Region.bits c.args.region.now) (g.R.Region.answers c.args.region.now)) a c.make_vectors-made.ensures.canonical in
     let r = leaf_room _ _ _ _ _ _ _ _ _ _ _ _ c.loop-slot-test.true some can c.rank.ensures c.loop-slot.invariant.0 in
     r.is_out
 
 pub put-requires-clause-within : goal.put-requires-clause-within
 put-requires-clause-within g t c =
     let a = kinds_agree (g.R.Region.bits c.args.region.now) (g.R.Region.answers c.args.region.now) c.ask.new.slots c.ask.ensures in
-    let some : Some c.in-Some.hop ≡ slots (g.R.Region.bits c.args.region.now) (g.R.Region.answers c.args.region.now) c.loop-slot.slot = sym c.in-Some.is ∙ (ap (kind_in c.ask.new.slots) c.from.ensures ∙ a c.loop-slot.slot c.loop-slot-test.true) in
-    let can = canonical_same c.make_vectors-made.result.vector c.make_vectors-made.result.leafvec (kind_in c.ask.new.slots) (slots (g.R.Region.bits c.args.region.now) (g.R.Region.answers c.args.region.now)) a c.make_vectors-made.ensures.canonical in
+    let some : Some c.in-Some.hop ≡ slots (g.R.Region.bits c.args.region.now) (g.R.Region.answers c.args.region.now) c.loop-slot.slot = sym c.in-Some.is ∙ (ap (slot_kind c.ask.new.slots) c.from.ensures ∙ a c.loop-slot.slot c.loop-slot-test.true) in
+    let can = canonical_same c.make_vectors-made.result.vector c.make_vectors-made.result.leafvec (slot_kind c.ask.new.slots) (slots (g.R.Region.bits c.args.region.now) (g.R.Region.answers c.args.region.now)) a c.make_vectors-made.ensures.canonical in
     let r = leaf_room _ _ _ _ _ _ _ _ _ _ _ _ c.loop-slot-test.true some can c.rank.ensures c.loop-slot.invariant.0 in
     r.within
 
 pub descend-child-requires-clause-fits : goal.descend-child-requires-clause-fits
 descend-child-requires-clause-fits g t c =
     let a = kinds_agree (g.R.Region.bits c.args.region.now) (g.R.Region.answers c.args.region.now) c.ask.new.slots c.ask.ensures in
-    let none : None ≡ slots (g.R.Region.bits c.args.region.now) (g.R.Region.answers c.args.region.now) c.loop-slot.slot = sym c.in-None.is ∙ (ap (kind_in c.ask.new.slots) c.from.ensures ∙ a c.loop-slot.slot c.loop-slot-test.true) in
+    let none : None ≡ slots (g.R.Region.bits c.args.region.now) (g.R.Region.answers c.args.region.now) c.loop-slot.slot = sym c.in-None.is ∙ (ap (slot_kind c.ask.new.slots) c.from.ensures ∙ a c.loop-slot.slot c.loop-slot-test.true) in
     six_bits (g.R.Region.bits c.args.region.now) c.loop-slot.slot (g.R.Region.answers c.args.region.now) none
 
 pub build_node-requires : goal.build_node-requires
 build_node-requires g t c κs within =
     let a = kinds_agree (g.R.Region.bits c.args.region.now) (g.R.Region.answers c.args.region.now) c.ask.new.slots c.ask.ensures in
-    let none : None ≡ slots (g.R.Region.bits c.args.region.now) (g.R.Region.answers c.args.region.now) c.loop-slot.slot = sym c.in-None.is ∙ (ap (kind_in c.ask.new.slots) c.from.ensures ∙ a c.loop-slot.slot c.loop-slot-test.true) in
+    let none : None ≡ slots (g.R.Region.bits c.args.region.now) (g.R.Region.answers c.args.region.now) c.loop-slot.slot = sym c.in-None.is ∙ (ap (slot_kind c.ask.new.slots) c.from.ensures ∙ a c.loop-slot.slot c.loop-slot-test.true) in
     let down = descended_slot (g.R.Region.bits c.args.region.now) c.loop-slot.slot (g.R.Region.bits c.descend-child.result) (g.R.Region.answers c.args.region.now) (g.R.Region.answers c.descend-child.result) c.descend-child.ensures.bits c.descend-child.ensures.answers in
     let m = child_none (g.R.Region.bits c.args.region.now) (g.R.Region.bits c.descend-child.result) c.loop-slot.slot (g.R.Region.answers c.args.region.now) (g.R.Region.answers c.descend-child.result) down.0 down.1 none in
     let l = child_less (g.R.Region.bits c.args.region.now) (g.R.Region.bits c.descend-child.result) c.loop-slot.slot (g.R.Region.answers c.args.region.now) (g.R.Region.answers c.descend-child.result) down.0 down.1 none in
@@ -90,7 +90,7 @@ build_node-requires g t c κs within =
 pub returns-in_err-node-in-None-clause-fits : goal.returns-in_err-node-in-None-clause-fits
 returns-in_err-node-in-None-clause-fits g t c =
     let a = kinds_agree (g.R.Region.bits c.args.region.now) (g.R.Region.answers c.args.region.now) c.ask.new.slots c.ask.ensures in
-    let none : None ≡ slots (g.R.Region.bits c.args.region.now) (g.R.Region.answers c.args.region.now) c.loop-slot.slot = sym c.in-None.is ∙ (ap (kind_in c.ask.new.slots) c.from.ensures ∙ a c.loop-slot.slot c.loop-slot-test.true) in
+    let none : None ≡ slots (g.R.Region.bits c.args.region.now) (g.R.Region.answers c.args.region.now) c.loop-slot.slot = sym c.in-None.is ∙ (ap (slot_kind c.ask.new.slots) c.from.ensures ∙ a c.loop-slot.slot c.loop-slot-test.true) in
     let down = descended_slot (g.R.Region.bits c.args.region.now) c.loop-slot.slot (g.R.Region.bits c.descend-child.result) (g.R.Region.answers c.args.region.now) (g.R.Region.answers c.descend-child.result) c.descend-child.ensures.bits c.descend-child.ensures.answers in
     λ k h fn fl n l.
     let q = child_fits (g.R.Region.bits c.args.region.now) (g.R.Region.answers c.args.region.now) _ _ _ _ c.loop-slot.slot (g.R.Region.bits c.descend-child.result) (g.R.Region.answers c.descend-child.result) c.loop-slot-test.true c.requires.mixed down.0 down.1 c.loop-slot.invariant.1 k h n l in
@@ -100,41 +100,41 @@ returns-in_err-node-in-None-clause-fits g t c =
 pub overflow_add-base1 : goal.overflow_add-base1
 overflow_add-base1 g t c =
     let a = kinds_agree (g.R.Region.bits c.args.region.now) (g.R.Region.answers c.args.region.now) c.ask.new.slots c.ask.ensures in
-    let none : None ≡ slots (g.R.Region.bits c.args.region.now) (g.R.Region.answers c.args.region.now) c.loop-slot.slot = sym c.in-None.is ∙ (ap (kind_in c.ask.new.slots) c.from.ensures ∙ a c.loop-slot.slot c.loop-slot-test.true) in
-    let can = canonical_same c.make_vectors-made.result.vector c.make_vectors-made.result.leafvec (kind_in c.ask.new.slots) (slots (g.R.Region.bits c.args.region.now) (g.R.Region.answers c.args.region.now)) a c.make_vectors-made.ensures.canonical in
+    let none : None ≡ slots (g.R.Region.bits c.args.region.now) (g.R.Region.answers c.args.region.now) c.loop-slot.slot = sym c.in-None.is ∙ (ap (slot_kind c.ask.new.slots) c.from.ensures ∙ a c.loop-slot.slot c.loop-slot-test.true) in
+    let can = canonical_same c.make_vectors-made.result.vector c.make_vectors-made.result.leafvec (slot_kind c.ask.new.slots) (slots (g.R.Region.bits c.args.region.now) (g.R.Region.answers c.args.region.now)) a c.make_vectors-made.ensures.canonical in
     let r = node_room _ _ _ _ _ _ _ _ _ _ _ _ _ c.loop-slot-test.true none can c.rank-in-None.ensures c.loop-slot.invariant.0 c.build_node.ensures.nodes in
-    let cs = children_same c.make_vectors-made.result.nodes (kind_in c.ask.new.slots) (slots (g.R.Region.bits c.args.region.now) (g.R.Region.answers c.args.region.now)) a c.make_vectors-made.ensures.nodes in
+    let cs = children_same c.make_vectors-made.result.nodes (slot_kind c.ask.new.slots) (slots (g.R.Region.bits c.args.region.now) (g.R.Region.answers c.args.region.now)) a c.make_vectors-made.ensures.nodes in
     let h : c.in_ok-base1.base1 + c.rank-in-None.result < 4294967296 = block_small c.in_ok-base1.base1 c.make_vectors-made.result.nodes c.rank-in-None.result _ _ _ _ c.in_ok-base1.ensures.takes c.take_places.ensures.sized.cells c.take_places.ensures.sized.small (omega (arith, r.most, cs)) in
     omega (arith, h)
 
 pub overflow_sub-base1 : goal.overflow_sub-base1
 overflow_sub-base1 g t c =
     let a = kinds_agree (g.R.Region.bits c.args.region.now) (g.R.Region.answers c.args.region.now) c.ask.new.slots c.ask.ensures in
-    let none : None ≡ slots (g.R.Region.bits c.args.region.now) (g.R.Region.answers c.args.region.now) c.loop-slot.slot = sym c.in-None.is ∙ (ap (kind_in c.ask.new.slots) c.from.ensures ∙ a c.loop-slot.slot c.loop-slot-test.true) in
-    let can = canonical_same c.make_vectors-made.result.vector c.make_vectors-made.result.leafvec (kind_in c.ask.new.slots) (slots (g.R.Region.bits c.args.region.now) (g.R.Region.answers c.args.region.now)) a c.make_vectors-made.ensures.canonical in
+    let none : None ≡ slots (g.R.Region.bits c.args.region.now) (g.R.Region.answers c.args.region.now) c.loop-slot.slot = sym c.in-None.is ∙ (ap (slot_kind c.ask.new.slots) c.from.ensures ∙ a c.loop-slot.slot c.loop-slot-test.true) in
+    let can = canonical_same c.make_vectors-made.result.vector c.make_vectors-made.result.leafvec (slot_kind c.ask.new.slots) (slots (g.R.Region.bits c.args.region.now) (g.R.Region.answers c.args.region.now)) a c.make_vectors-made.ensures.canonical in
     let r = node_room _ _ _ _ _ _ _ _ _ _ _ _ _ c.loop-slot-test.true none can c.rank-in-None.ensures c.loop-slot.invariant.0 c.build_node.ensures.nodes in
     omega (arith, r.some)
 
 pub put-requires-in-None-clause-out : goal.put-requires-in-None-clause-out
 put-requires-in-None-clause-out g t c =
     let a = kinds_agree (g.R.Region.bits c.args.region.now) (g.R.Region.answers c.args.region.now) c.ask.new.slots c.ask.ensures in
-    let none : None ≡ slots (g.R.Region.bits c.args.region.now) (g.R.Region.answers c.args.region.now) c.loop-slot.slot = sym c.in-None.is ∙ (ap (kind_in c.ask.new.slots) c.from.ensures ∙ a c.loop-slot.slot c.loop-slot-test.true) in
-    let can = canonical_same c.make_vectors-made.result.vector c.make_vectors-made.result.leafvec (kind_in c.ask.new.slots) (slots (g.R.Region.bits c.args.region.now) (g.R.Region.answers c.args.region.now)) a c.make_vectors-made.ensures.canonical in
+    let none : None ≡ slots (g.R.Region.bits c.args.region.now) (g.R.Region.answers c.args.region.now) c.loop-slot.slot = sym c.in-None.is ∙ (ap (slot_kind c.ask.new.slots) c.from.ensures ∙ a c.loop-slot.slot c.loop-slot-test.true) in
+    let can = canonical_same c.make_vectors-made.result.vector c.make_vectors-made.result.leafvec (slot_kind c.ask.new.slots) (slots (g.R.Region.bits c.args.region.now) (g.R.Region.answers c.args.region.now)) a c.make_vectors-made.ensures.canonical in
     let r = node_room _ _ _ _ _ _ _ _ _ _ _ _ _ c.loop-slot-test.true none can c.rank-in-None.ensures c.loop-slot.invariant.0 c.build_node.ensures.nodes in
     r.is_out
 
 pub put-requires-in-None-clause-within : goal.put-requires-in-None-clause-within
 put-requires-in-None-clause-within g t c =
     let a = kinds_agree (g.R.Region.bits c.args.region.now) (g.R.Region.answers c.args.region.now) c.ask.new.slots c.ask.ensures in
-    let none : None ≡ slots (g.R.Region.bits c.args.region.now) (g.R.Region.answers c.args.region.now) c.loop-slot.slot = sym c.in-None.is ∙ (ap (kind_in c.ask.new.slots) c.from.ensures ∙ a c.loop-slot.slot c.loop-slot-test.true) in
-    let can = canonical_same c.make_vectors-made.result.vector c.make_vectors-made.result.leafvec (kind_in c.ask.new.slots) (slots (g.R.Region.bits c.args.region.now) (g.R.Region.answers c.args.region.now)) a c.make_vectors-made.ensures.canonical in
+    let none : None ≡ slots (g.R.Region.bits c.args.region.now) (g.R.Region.answers c.args.region.now) c.loop-slot.slot = sym c.in-None.is ∙ (ap (slot_kind c.ask.new.slots) c.from.ensures ∙ a c.loop-slot.slot c.loop-slot-test.true) in
+    let can = canonical_same c.make_vectors-made.result.vector c.make_vectors-made.result.leafvec (slot_kind c.ask.new.slots) (slots (g.R.Region.bits c.args.region.now) (g.R.Region.answers c.args.region.now)) a c.make_vectors-made.ensures.canonical in
     let r = node_room _ _ _ _ _ _ _ _ _ _ _ _ _ c.loop-slot-test.true none can c.rank-in-None.ensures c.loop-slot.invariant.0 c.build_node.ensures.nodes in
     r.within
 
 pub returns-clause-stands : goal.returns-clause-stands
 returns-clause-stands g t c =
     let a = kinds_agree (g.R.Region.bits c.args.region.now) (g.R.Region.answers c.args.region.now) c.ask.new.slots c.ask.ensures in
-    let can = canonical_same c.make_vectors-made.result.vector c.make_vectors-made.result.leafvec (kind_in c.ask.new.slots) (slots (g.R.Region.bits c.args.region.now) (g.R.Region.answers c.args.region.now)) a c.make_vectors-made.ensures.canonical in
+    let can = canonical_same c.make_vectors-made.result.vector c.make_vectors-made.result.leafvec (slot_kind c.ask.new.slots) (slots (g.R.Region.bits c.args.region.now) (g.R.Region.answers c.args.region.now)) a c.make_vectors-made.ensures.canonical in
     at_end_stands _ _ _ _ _ _ _ _ _ c.loop-slot.slot c.loop-slot.auto.slot-end c.loop-slot-test.false c.requires.mixed can c.loop-slot.invariant.0
 
 pub returns-clause-nodes_left : goal.returns-clause-nodes_left
@@ -148,10 +148,10 @@ returns-clause-leaves_left g t c =
 pub loop-slot-preserved : goal.loop-slot-preserved
 loop-slot-preserved g t c =
     let a = kinds_agree (g.R.Region.bits c.args.region.now) (g.R.Region.answers c.args.region.now) c.ask.new.slots c.ask.ensures in
-    let can = canonical_same c.make_vectors-made.result.vector c.make_vectors-made.result.leafvec (kind_in c.ask.new.slots) (slots (g.R.Region.bits c.args.region.now) (g.R.Region.answers c.args.region.now)) a c.make_vectors-made.ensures.canonical in
+    let can = canonical_same c.make_vectors-made.result.vector c.make_vectors-made.result.leafvec (slot_kind c.ask.new.slots) (slots (g.R.Region.bits c.args.region.now) (g.R.Region.answers c.args.region.now)) a c.make_vectors-made.ensures.canonical in
     elim c.match-kinds-from.branch [
       | in-Some w ↦
-          let some : Some w.in-Some.hop ≡ slots (g.R.Region.bits c.args.region.now) (g.R.Region.answers c.args.region.now) c.loop-slot.slot = sym w.in-Some.is ∙ (ap (kind_in c.ask.new.slots) c.from.ensures ∙ a c.loop-slot.slot c.loop-slot-test.true) in (
+          let some : Some w.in-Some.hop ≡ slots (g.R.Region.bits c.args.region.now) (g.R.Region.answers c.args.region.now) c.loop-slot.slot = sym w.in-Some.is ∙ (ap (slot_kind c.ask.new.slots) c.from.ensures ∙ a c.loop-slot.slot c.loop-slot-test.true) in (
             leaf_written _ _ _ _ _ _ _ _ _ _ _ w.in-Some.hop w.rank.result c.loop-slot-test.true some can w.rank.ensures c.loop-slot.invariant.0 (ap (λ (s : Space Node). s.cells) w.nodes-is) (ap (λ (s : Space Node). is_out s.free) w.nodes-is)
                 (ap (λ (s : Space ℕ). s.cells) w.leaves-is ∙ w.put.ensures.cells) (ap (λ (s : Space ℕ). is_out s.free) w.leaves-is ∙ ap is_out w.put.ensures.free),
             count_leaf _ _ _ _ _ _ _ _ _ w.in-Some.hop (sym some) w.nodes-is (ap (λ (s : Space ℕ). s.free) w.leaves-is ∙ w.put.ensures.free) (ap (λ (s : Space ℕ). s.order) w.leaves-is ∙ w.put.ensures.order) (ap (λ (s : Space ℕ). s.fill) w.leaves-is ∙ w.put.ensures.fill)
@@ -159,7 +159,7 @@ loop-slot-preserved g t c =
             parted_leaf _ _ _ _ _ c.loop-slot.slot (can.nodes c.loop-slot.slot c.loop-slot-test.true ∙ ap mixed (sym some)) (ap (λ (s : Space Node). s.cells) w.nodes-is) (ap (λ (s : Space Node). is_out s.free) w.nodes-is) (ap (λ (s : Space ℕ). is_out s.free) w.leaves-is ∙ ap is_out w.put.ensures.free) c.loop-slot.invariant.2,
           )
       | in-None+in_ok-node-in-None w ↦
-          let none : None ≡ slots (g.R.Region.bits c.args.region.now) (g.R.Region.answers c.args.region.now) c.loop-slot.slot = sym w.in-None.is ∙ (ap (kind_in c.ask.new.slots) c.from.ensures ∙ a c.loop-slot.slot c.loop-slot-test.true) in
+          let none : None ≡ slots (g.R.Region.bits c.args.region.now) (g.R.Region.answers c.args.region.now) c.loop-slot.slot = sym w.in-None.is ∙ (ap (slot_kind c.ask.new.slots) c.from.ensures ∙ a c.loop-slot.slot c.loop-slot-test.true) in
           let bit = can.nodes c.loop-slot.slot c.loop-slot-test.true ∙ ap mixed (sym none) in
           let room = node_room _ _ _ _ _ _ _ _ _ _ _ _ _ c.loop-slot-test.true none can w.rank-in-None.ensures c.loop-slot.invariant.0 w.build_node.ensures.nodes in
           let down = descended_slot (g.R.Region.bits c.args.region.now) c.loop-slot.slot (g.R.Region.bits w.descend-child.result) (g.R.Region.answers c.args.region.now) (g.R.Region.answers w.descend-child.result) w.descend-child.ensures.bits w.descend-child.ensures.answers in (
@@ -181,15 +181,15 @@ loop-slot-preserved g t c =
 pub returns-clause-nodes_apart : goal.returns-clause-nodes_apart
 returns-clause-nodes_apart g t c =
     let a = kinds_agree (g.R.Region.bits c.args.region.now) (g.R.Region.answers c.args.region.now) c.ask.new.slots c.ask.ensures in
-    let can = canonical_same c.make_vectors-made.result.vector c.make_vectors-made.result.leafvec (kind_in c.ask.new.slots) (slots (g.R.Region.bits c.args.region.now) (g.R.Region.answers c.args.region.now)) a c.make_vectors-made.ensures.canonical in
-    let cs = children_same c.make_vectors-made.result.nodes (kind_in c.ask.new.slots) (slots (g.R.Region.bits c.args.region.now) (g.R.Region.answers c.args.region.now)) a c.make_vectors-made.ensures.nodes in
+    let can = canonical_same c.make_vectors-made.result.vector c.make_vectors-made.result.leafvec (slot_kind c.ask.new.slots) (slots (g.R.Region.bits c.args.region.now) (g.R.Region.answers c.args.region.now)) a c.make_vectors-made.ensures.canonical in
+    let cs = children_same c.make_vectors-made.result.nodes (slot_kind c.ask.new.slots) (slots (g.R.Region.bits c.args.region.now) (g.R.Region.answers c.args.region.now)) a c.make_vectors-made.ensures.nodes in
     λ k. nodes_parted _ _ _ _ _ c.loop-slot.slot _ _ _ _ c.loop-slot.auto.slot-end c.loop-slot-test.false can c.loop-slot.invariant.0 c.loop-slot.invariant.2 (c.in_ok-base1.ensures.aligned.0, c.in_ok-base1.ensures.aligned.1 ∙ ap (λ n. c.in_ok-base1.ensures.aligned.0 * up n) cs) k
 
 pub returns-clause-leaves_apart : goal.returns-clause-leaves_apart
 returns-clause-leaves_apart g t c =
     let a = kinds_agree (g.R.Region.bits c.args.region.now) (g.R.Region.answers c.args.region.now) c.ask.new.slots c.ask.ensures in
-    let can = canonical_same c.make_vectors-made.result.vector c.make_vectors-made.result.leafvec (kind_in c.ask.new.slots) (slots (g.R.Region.bits c.args.region.now) (g.R.Region.answers c.args.region.now)) a c.make_vectors-made.ensures.canonical in
-    let rs = runs_same c.make_vectors-made.result.leaves (kind_in c.ask.new.slots) (slots (g.R.Region.bits c.args.region.now) (g.R.Region.answers c.args.region.now)) a c.make_vectors-made.ensures.leaves in
+    let can = canonical_same c.make_vectors-made.result.vector c.make_vectors-made.result.leafvec (slot_kind c.ask.new.slots) (slots (g.R.Region.bits c.args.region.now) (g.R.Region.answers c.args.region.now)) a c.make_vectors-made.ensures.canonical in
+    let rs = runs_same c.make_vectors-made.result.leaves (slot_kind c.ask.new.slots) (slots (g.R.Region.bits c.args.region.now) (g.R.Region.answers c.args.region.now)) a c.make_vectors-made.ensures.leaves in
     λ k. leaves_parted _ _ _ _ _ c.loop-slot.slot _ _ _ _ c.loop-slot.auto.slot-end c.loop-slot-test.false can c.loop-slot.invariant.0 c.loop-slot.invariant.2 (c.in_ok-base0.ensures.aligned.0, c.in_ok-base0.ensures.aligned.1 ∙ ap (λ n. c.in_ok-base0.ensures.aligned.0 * up n) rs) k
 
 -- where the nodes' block is refused

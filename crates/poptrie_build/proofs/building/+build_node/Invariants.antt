@@ -1,4 +1,4 @@
-use Rattle.block_pool.specs.Places.{is_out}
+use Rattle.buddy_arena.specs.Places.{is_out}
 use Rattle.poptrie_build.proofs.Going.{Going, state}
 use Rattle.poptrie_build.proofs.Counting.{Counted}
 use Rattle.poptrie_build.proofs.Parted.{Parted}

@@ -1,5 +1,5 @@
 use Rattle.std.proofs.Common.{rules, arith, refl, ◌≡◌, ◌≤◌, ◌∙◌, ap, ℕ, suc, ◌-◌, ◌^◌, length}
-use Rattle.block_pool.specs.Places.{is_out, since}
+use Rattle.buddy_arena.specs.Places.{is_out, since}
 use Rattle.poptrie_build.specs.Stands.{blank}
 use Rattle.poptrie_build.proofs.Slotting.{double}
 use Rattle.poptrie_build.proofs.Directing.{never, keeps_all, keeps_both, word_zero, words_same, no_trie_nodes, no_trie_leaves, split_nodes, split_leaves, split_words, low_nodes, low_leaves}

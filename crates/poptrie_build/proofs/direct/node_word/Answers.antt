@@ -1,7 +1,7 @@
 use Rattle.std.proofs.Common.{refl, ap, sym, ◌∙◌, arith, ◌+◌}
 use Rattle.buddy_arena.specs.Space as arena
 use Rattle.poptrie_build.specs.Need.{need_nodes}
-use Rattle.block_pool.specs.Places.{is_out}
+use Rattle.buddy_arena.specs.Places.{is_out}
 use Rattle.poptrie_build.specs.Stands.{blank}
 use Rattle.poptrie_build.proofs.Directing.{never, one_refused, one_fits, one_fits_leaves, first_out, keeps_put, keeps_both, keeps_all, word_node, small_len, one_nodes, one_leaves}
 use Rattle.poptrie_build.proofs.Wording.{put_apart, put_apart_leaves}
@@ -32,7 +32,7 @@ returns-clause-stands g c =
     λ k h. word_node _ k c.in_ok-word.word _ c.in_ok-node.node _ _ _ _ _ _ _ _ _ _ c.requires.mixed c.in_ok-word.ensures.takes (sym c.build_node.ensures.nodes.long) (small_len c.take_places.new.arena c.take_places.ensures.sized) c.take_places.ensures.still c.build_node.ensures.nodes.still c.put.ensures.cells (ap is_out c.put.ensures.free) (c.in_ok-node.ensures.stands k h)
 
 pub returns-clause-nodes_left : goal.returns-clause-nodes_left
-returns-clause-nodes_left g c = λ k h. one_nodes k _ _ _ _ _ c.requires.mixed c.in_ok-word.ensures.left (ap (λ x. arena.total x + need_nodes k (g.R.Region.bits c.args.region.now) (g.R.Region.answers c.args.region.now)) c.put.ensures.free ∙ c.in_ok-node.ensures.nodes_left k h)
+returns-clause-nodes_left g c = λ k h. one_nodes k _ _ _ _ _ c.requires.mixed c.in_ok-word.ensures.left (ap (λ x. arena.free_count x + need_nodes k (g.R.Region.bits c.args.region.now) (g.R.Region.answers c.args.region.now)) c.put.ensures.free ∙ c.in_ok-node.ensures.nodes_left k h)
 
 pub returns-clause-leaves_left : goal.returns-clause-leaves_left
 returns-clause-leaves_left g c = λ k h. one_leaves k _ _ _ _ (c.in_ok-node.ensures.leaves_left k h)

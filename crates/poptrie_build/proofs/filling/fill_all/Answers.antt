@@ -1,10 +1,10 @@
 use Rattle.std.proofs.Common.{arith, ◌≡◌, ◌∙◌, ap, sym, ◌^◌, ◌≤◌, ◌-◌, ℕ, subst, replicate}
 use Rattle.buddy_arena.specs.Space.{Space}
 use Rattle.poptrie_build.specs.Need.{trie_nodes, trie_leaves}
-use Rattle.block_pool.specs.Places.{is_out, since}
+use Rattle.buddy_arena.specs.Places.{is_out, since}
 use Rattle.poptrie_build.specs.declared.node.Node.{Node}
 use Rattle.poptrie_build.proofs.Filled.{all_sized, empty_again, words_stand, all_free, all_fresh, too_many_nodes, too_many_leaves}
-use Rattle.block_pool.proofs.Parting.{apart_more, since_now}
+use Rattle.buddy_arena.proofs.Parting.{apart_more, since_now}
 use Rattle.poptrie_build.proofs.filling.fill_all.Goals as goal
 
 pub returns-then-fill_words-clause-words : goal.returns-then-fill_words-clause-words

@@ -1,11 +1,11 @@
 use Rattle.std.proofs.Common.{◌≡◌, ℕ, ◌+◌, ◌^◌, List, ◌++◌, Bool, drop, sym, ap, arith}
-use Rattle.block_pool.specs.Arrays.{Array, places_of}
-use Rattle.block_pool.specs.Blocks.{blocks_of}
+use Rattle.buddy_arena.specs.Arrays.{Array, places_of}
+use Rattle.buddy_arena.specs.Blocks.{blocks_of}
 use Rattle.fib_addr.specs.Answers.{all_answers, part}
 use Rattle.table_model.specs.Bits.{bits_of}
 use Rattle.poptrie_build.specs.Strides.{strides}
 use Rattle.poptrie_build.specs.Tries.{rest, node_need, leaf_need}
-use Rattle.poptrie_copy.proofs.Retiring.{slots_places}
+use Rattle.path_copying.proofs.Retiring.{slots_places}
 use Rattle.poptrie_set.specs.Crowds.{sum}
 use Rattle.poptrie_set.proofs.Late.{late_few, early_late}
 use Rattle.poptrie_set.proofs.Short.{small_slots, nodes_short, leaves_short}

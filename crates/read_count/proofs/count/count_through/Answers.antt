@@ -5,7 +5,7 @@ use Rattle.std.proofs.lemmas.Result.{err_from_is_err_and}
 use Rattle.fib_prefix.specs.Views.{event_as}
 use Rattle.mrt_read.proofs.Fed.{fed_at_start, fed_more, fed_takes}
 use Rattle.fib_io.specs.Pieces.{ComeNext, IsEnd, IsLarge}
-use Rattle.whole_input.proofs.Arriving.{told_before}
+use Rattle.mrt_read.proofs.Arriving.{told_before}
 use Rattle.read_count.proofs.Counting.{counted_all, counting_feeds, counting_start, counting_takes, refused_end, refused_piece, refused_read, used_at_start}
 use Rattle.read_count.proofs.count.count_through.Goals as goal
 

@@ -6,7 +6,7 @@ pub returns-then-not-holds_rank-clause-serve : goal.returns-then-not-holds_rank-
 returns-then-not-holds_rank-clause-serve c = c.prune_rank.ensures.serve _
 
 pub returns-then-not-holds_rank-clause-room : goal.returns-then-not-holds_rank-clause-room
-returns-then-not-holds_rank-clause-room c = rank_room c.args.seats.now.entries _ _ c.args.rank.now c.args.plan.now (sym c.holds_rank.ensures ∙ c.if-not-holds_rank.true) c.prune_rank.ensures.others
+returns-then-not-holds_rank-clause-room c = rank_room c.args.paths.now.entries _ _ c.args.rank.now c.args.plan.now (sym c.holds_rank.ensures ∙ c.if-not-holds_rank.true) c.prune_rank.ensures.others
 
 pub returns-else-not-holds_rank-clause-serve : goal.returns-else-not-holds_rank-clause-serve
-returns-else-not-holds_rank-clause-serve c = held_rank c.args.seats.now.entries _ c.args.rank.now c.args.plan.now (sym c.holds_rank.ensures ∙ c.if-not-holds_rank.false)
+returns-else-not-holds_rank-clause-serve c = held_rank c.args.paths.now.entries _ c.args.rank.now c.args.plan.now (sym c.holds_rank.ensures ∙ c.if-not-holds_rank.false)

@@ -1,9 +1,9 @@
-use Rattle.route_choice.proofs.Finds.{AtSeats}
+use Rattle.route_choice.proofs.Finds.{AtPaths}
 use Rattle.route_choice.proofs.over.over_cuts.Given as goal
 
-abbrev pub invariant-loop-seat : goal.invariant-loop-seat
-invariant-loop-seat l = record {
-  next : (goal.iterator-loop-seat).can_next l.seat-iterator;
-  finite : (goal.iterator-loop-seat).is_finite l.seat-iterator;
-  walk : AtSeats l.peer l.seats.entries l.cuts.items l.seat-iterator;
+abbrev pub invariant-loop-key : goal.invariant-loop-key
+invariant-loop-key l = record {
+  next : (goal.iterator-loop-key).can_next l.key-iterator;
+  finite : (goal.iterator-loop-key).is_finite l.key-iterator;
+  walk : AtPaths l.peer l.paths.entries l.cuts.items l.key-iterator;
 }

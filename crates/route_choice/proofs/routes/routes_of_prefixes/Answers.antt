@@ -1,14 +1,14 @@
 use Rattle.std.proofs.Common.{ap, sym, ◌∙◌, ◌+◌, ◌∷◌, drop}
 use Rattle.std.proofs.lemmas.List.{drop_more}
 use Rattle.std.proofs.Math.ListN.{drop_of_length-le}
-use Rattle.flat_base.specs.Flat.{both}
+use Rattle.adj_rib_in.specs.Flat.{paths_over}
 use Rattle.route_choice.proofs.AllRoutes.{prefix_told, all_told}
 use Rattle.route_choice.proofs.routes.routes_of_prefixes.Goals as goal
 
 pub loop-prefix-preserved : goal.loop-prefix-preserved
 loop-prefix-preserved c =
     let step = drop_more c.args.prefixes.now c.loop-prefix.prefix-index c.prefix-item.result c.loop-prefix-test.true ∙ ap (λ y. y ∷ drop (c.loop-prefix.prefix-index + 1) c.args.prefixes.now) (sym c.prefix-item.is) in
-    prefix_told (both c.args.flat.now c.args.seats.now.entries) _ _ _ c.prefix-item.result _ _ step (c.in_ok-push_route.ensures (both c.args.flat.now c.args.seats.now.entries) c.best_of-best.ensures) c.loop-prefix.invariant
+    prefix_told (paths_over c.args.flat.now c.args.paths.now.entries) _ _ _ c.prefix-item.result _ _ step (c.in_ok-push_route.ensures (paths_over c.args.flat.now c.args.paths.now.entries) c.best_of-best.ensures) c.loop-prefix.invariant
 
 pub returns : goal.returns
-returns c = all_told (both c.args.flat.now c.args.seats.now.entries) _ _ _ (drop_of_length-le c.args.prefixes.now c.loop-prefix-test.false) c.loop-prefix.invariant
+returns c = all_told (paths_over c.args.flat.now c.args.paths.now.entries) _ _ _ (drop_of_length-le c.args.prefixes.now c.loop-prefix-test.false) c.loop-prefix.invariant

@@ -1,6 +1,6 @@
 use Rattle.std.proofs.lemmas.Result.{err_from_is_err_and}
 use Rattle.std.proofs.Common.{[], ◌∷◌}
-use Rattle.cost_cert.specs.Printed.{kind_as}
+use Rattle.printed_text.specs.Printed.{kind_as}
 use Rattle.fib_same.proofs.Whole.{first_stops, others_stop}
 use Rattle.router_moves.proofs.Asking.{asked_told, printed_fails, router_fails}
 use Rattle.router_moves.proofs.asked.read_asked.Goals as goal

@@ -5,10 +5,10 @@ use Rattle.table_model.specs.declared.family.Family.{Family}
 use Rattle.table_model.specs.Entries.{in_order}
 use Rattle.kept_model.specs.Between.{place_of}
 use Rattle.kept_model.proofs.Places.{in_places}
-use Rattle.moves_cert.specs.Rows.{near_in}
+use Rattle.moves_model.specs.Rows.{near_in}
 use Rattle.fib_addr.specs.Views.{entry_as}
 use Rattle.fib_delta.specs.Views.{change_as}
-use Rattle.router_model.specs.Both.{family_changes, family_table, own_entries, told_in}
+use Rattle.moves_model.specs.Both.{family_changes, family_table, own_entries, told_in}
 use Rattle.router_moves.proofs.Found.{all_changed, is_shortest}
 use Rattle.router_moves.proofs.family.family_moves.Goals as goal
 

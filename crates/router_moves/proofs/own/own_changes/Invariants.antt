@@ -1,7 +1,7 @@
 use Rattle.std.proofs.Common.{◌≡◌, ◌++◌, map, drop}
 use Rattle.fib_delta.specs.Views.{change_as}
 use Rattle.moves_check.specs.Views.{AreChangesOf}
-use Rattle.router_model.specs.Claims.{own_changes}
+use Rattle.moves_model.specs.Claims.{own_changes}
 use Rattle.router_moves.proofs.own.own_changes.Given as goal
 
 abbrev pub invariant-loop-change : goal.invariant-loop-change

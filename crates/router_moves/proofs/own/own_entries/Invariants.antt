@@ -1,7 +1,7 @@
 use Rattle.std.proofs.Common.{◌≡◌, ◌++◌, map, drop}
 use Rattle.fib_addr.specs.Views.{entry_as}
 use Rattle.moves_check.specs.Views.{AreEntriesOf}
-use Rattle.router_model.specs.Both.{own_entries}
+use Rattle.moves_model.specs.Both.{own_entries}
 use Rattle.router_moves.proofs.own.own_entries.Given as goal
 
 abbrev pub invariant-loop-entry : goal.invariant-loop-entry

@@ -1,7 +1,7 @@
 use Rattle.std.proofs.Common.{◌≡◌, ◌++◌, map, drop}
 use Rattle.cert_model.specs.Views.{row_as}
 use Rattle.moves_check.specs.Views.{AreRowsOf}
-use Rattle.router_model.specs.Claims.{own_rows}
+use Rattle.moves_model.specs.Claims.{own_rows}
 use Rattle.router_moves.proofs.own.own_rows.Given as goal
 
 abbrev pub invariant-loop-row : goal.invariant-loop-row

@@ -5,7 +5,7 @@ use Rattle.table_model.specs.Changes.{after_changes}
 use Rattle.kept_model.specs.Between.{place_of}
 use Rattle.fib_delta.specs.declared.change.Change as code
 use Rattle.fib_delta.specs.Views.{change_as}
-use Rattle.smalta_keep.specs.Rooms.{HasRoom}
+use Rattle.smalta_keep.specs.Rooms.{HasNode}
 use Rattle.smalta_keep.proofs.Making.{opened, one_at, kept_one, first_fits}
 use Rattle.smalta_keep.proofs.entries.apply_all.Goals as goal
 
@@ -13,7 +13,7 @@ pub apply-requires-clause-family : goal.apply-requires-clause-family
 apply-requires-clause-family c = one_at (λ d. (place_of d).family ≡ c.args.tree.now.family) c.args.changes.now c.loop-change.change-index c.change-item.result c.loop-change-test.true c.change-item.is c.requires.family ∙ sym c.loop-change.invariant.keeps.family
 
 pub apply-requires-clause-room : goal.apply-requires-clause-room
-apply-requires-clause-room c = kept_one c.args.tree.now.nodes c.loop-change.tree.nodes (change_as c.change-item.result) c.loop-change.invariant.keeps.nodes (one_at (HasRoom c.args.tree.now.nodes) c.args.changes.now c.loop-change.change-index c.change-item.result c.loop-change-test.true c.change-item.is c.requires.room)
+apply-requires-clause-room c = kept_one c.args.tree.now.nodes c.loop-change.tree.nodes (change_as c.change-item.result) c.loop-change.invariant.keeps.nodes (one_at (HasNode c.args.tree.now.nodes) c.args.changes.now c.loop-change.change-index c.change-item.result c.loop-change-test.true c.change-item.is c.requires.room)
 
 pub apply-requires-clause-fits : goal.apply-requires-clause-fits
 apply-requires-clause-fits c =

@@ -1,5 +1,5 @@
-use Rattle.smalta_keep.specs.Rooms.{KeepsTables}
+use Rattle.smalta_keep.specs.Rooms.{ChangesNodes}
 use Rattle.smalta_keep.proofs.idle.trim_left.Given as goal
 
 abbrev pub invariant-loop-change : goal.invariant-loop-change
-invariant-loop-change l = KeepsTables l.fn.tree l.tree
+invariant-loop-change l = ChangesNodes l.fn.tree l.tree

@@ -32,18 +32,18 @@ mend_set-requires-clause-known c =
     let k1 = c.set_planned.new.tree in
     let e = c.set_planned.ensures.keeps in
     let s = c.in_ok-former.ensures.set in
-    subst (λ (at : Option Prefix). IsKnownToMend c.args.due.fewest at k1 c.args.marks.now.tree) (sym s.place) (known_to_mend c.args.due.fewest c.args.route k0 k1 c.args.marks.now.tree c.family-family.ensures.order.0 c.requires.known e.family s.routes e.entries)
+    subst (λ (at : Option Prefix). IsKnownToMend c.args.due.fewest at k1 c.args.dirty.now.tree) (sym s.place) (known_to_mend c.args.due.fewest c.args.route k0 k1 c.args.dirty.now.tree c.family-family.ensures.order.0 c.requires.known e.family s.routes e.entries)
 
 pub keep-requires : goal.keep-requires
 keep-requires c =
     let k0 = c.args.tree.now in
-    reach_family c.planned_prefix.result None k0 c.args.marks.now.tree (route_family c.args.route c.planned_prefix.result k0.family c.planned_prefix.ensures c.requires.family) c.requires.known
+    reach_family c.planned_prefix.result None k0 c.args.dirty.now.tree (route_family c.args.route c.planned_prefix.result k0.family c.planned_prefix.ensures c.requires.family) c.requires.known
 
 pub keep-requires-2 : goal.keep-requires-2
 keep-requires-2 c =
     let k0 = c.args.tree.now in
     reach_family c.in_ok-mend.mend.reach None k0 c.keep.new.self.tree (λ p s. c.in_ok-mend.ensures.mend.of_reach p s ∙ c.set_planned.ensures.keeps.family)
-    (known_more k0 c.args.marks.now.tree c.keep.new.self.tree (more_at (option_map prefix_as c.planned_prefix.result) c.args.marks.now.tree c.keep.new.self.tree c.keep.ensures) c.requires.known)
+    (known_more k0 c.args.dirty.now.tree c.keep.new.self.tree (more_at (option_map prefix_as c.planned_prefix.result) c.args.dirty.now.tree c.keep.new.self.tree c.keep.ensures) c.requires.known)
 
 pub returns-then-not-due-clause-moved : goal.returns-then-not-due-clause-moved
 returns-then-not-due-clause-moved c =
@@ -95,9 +95,9 @@ snapshot_after-requires-clause-known c =
     let s3 = set_over route (undone_in f1 k2.routes) k0.routes k3 f2 (ap (λ (k : Labels). undone_in f1 k.routes) c.in_ok-mend.ensures.still ∙ s1.undone) c.in_ok-former-2.ensures.set in
     let s4 = set_room route k0.routes k3 k4 f2 f3 s3 c.in_ok-former-3.ensures.set in
     let t = c.keep.new.self.tree in
-    let touched = subst (λ (a : Option Prefix). IsTouchedAt a c.args.marks.now.tree t) (places route c.planned_prefix.result c.planned_prefix.ensures) c.keep.ensures in
+    let touched = subst (λ (a : Option Prefix). IsTouchedAt a c.args.dirty.now.tree t) (places route c.planned_prefix.result c.planned_prefix.ensures) c.keep.ensures in
     known_at (option_map prefix_as c.in_ok-mend.mend.reach) k4 t c.keep-2.new.self.tree c.keep-2.ensures
-    (known_planned route k0 k4 t c.family-family.ensures.order.0 (known_at (place_in route) k0 c.args.marks.now.tree t touched c.requires.known) (c.with_room-2.ensures.keeps.family ∙ (c.with_room.ensures.keeps.family ∙ (c.mend_set.ensures.keeps.family ∙ c.set_planned.ensures.keeps.family))) s4.routes
+    (known_planned route k0 k4 t c.family-family.ensures.order.0 (known_at (place_in route) k0 c.args.dirty.now.tree t touched c.requires.known) (c.with_room-2.ensures.keeps.family ∙ (c.with_room.ensures.keeps.family ∙ (c.mend_set.ensures.keeps.family ∙ c.set_planned.ensures.keeps.family))) s4.routes
     (c.with_room-2.ensures.keeps.entries ∙ (c.with_room.ensures.keeps.entries ∙ (c.mend_set.ensures.keeps.entries ∙ c.set_planned.ensures.keeps.entries))))
 
 pub snapshot_after-requires-clause-mend : goal.snapshot_after-requires-clause-mend
@@ -169,7 +169,7 @@ returns-clause-moved c =
     })
 
 pub returns-then-not-due-clause-marked : goal.returns-then-not-due-clause-marked
-returns-then-not-due-clause-marked c = marked_twice c.args.route c.planned_prefix.result (option_map prefix_as c.in_ok-mend.mend.reach) c.args.marks.now.tree c.keep.new.self.tree c.keep-2.new.self.tree c.planned_prefix.ensures c.keep.ensures c.keep-2.ensures
+returns-then-not-due-clause-marked c = marked_twice c.args.route c.planned_prefix.result (option_map prefix_as c.in_ok-mend.mend.reach) c.args.dirty.now.tree c.keep.new.self.tree c.keep-2.new.self.tree c.planned_prefix.ensures c.keep.ensures c.keep-2.ensures
 
 pub returns-clause-marked : goal.returns-clause-marked
-returns-clause-marked c = marked_twice c.args.route c.planned_prefix.result (option_map prefix_as c.in_ok-mend.mend.reach) c.args.marks.now.tree c.keep.new.self.tree c.keep-2.new.self.tree c.planned_prefix.ensures c.keep.ensures c.keep-2.ensures
+returns-clause-marked c = marked_twice c.args.route c.planned_prefix.result (option_map prefix_as c.in_ok-mend.mend.reach) c.args.dirty.now.tree c.keep.new.self.tree c.keep-2.new.self.tree c.planned_prefix.ensures c.keep.ensures c.keep-2.ensures

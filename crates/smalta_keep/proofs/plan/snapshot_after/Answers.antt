@@ -21,15 +21,15 @@ apply_all-requires-clause-fit c =
     let m = c.requires.mend in
     ap is_some (led c.deref.result.now k.entries k.entries (mended c.args.mend.now k.entries) (ap (map change_as) c.deref.ensures.value ∙ m.there) refl m.old_order m.order)
 
-pub renew-changes-requires : goal.renew-changes-requires
-renew-changes-requires c =
+pub snapshot_delta-changes-requires : goal.snapshot_delta-changes-requires
+snapshot_delta-changes-requires c =
     let k = c.args.tree.now in
     let l = c.apply_all.new.tree in
     let at = option_map prefix_as c.args.mend.now.reach in
     let N = mended c.args.mend.now k.entries in
     let m = c.requires.mend in
     let here : l.entries ≡ N = came c.deref.result.now k.entries k.entries N l.entries (ap (map change_as) c.deref.ensures.value ∙ m.there) refl m.old_order m.order c.apply_all.ensures.entries in
-    known_after at k l c.args.marks.now c.apply_all.ensures.keeps.family (beside_itself at k.family k.routes l.routes c.apply_all.ensures.keeps.routes) (subst (λ (T : Entries). SameBeside at k.family k.entries T) (sym here) m.beside) c.requires.known
+    known_after at k l c.args.dirty.now c.apply_all.ensures.keeps.family (beside_itself at k.family k.routes l.routes c.apply_all.ensures.keeps.routes) (subst (λ (T : Entries). SameBeside at k.family k.entries T) (sym here) m.beside) c.requires.known
 
 pub apply_all-requires-2-clause-room : goal.apply_all-requires-2-clause-room
 apply_all-requires-2-clause-room c =

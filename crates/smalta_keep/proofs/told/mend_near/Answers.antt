@@ -1,7 +1,7 @@
 use Rattle.std.proofs.Common.{◌≡◌, List, [], cond, map, sym, ap, subst, ◌∙◌}
 use Rattle.table_model.specs.Changes.{Change}
 use Rattle.kept_model.specs.Between.{between}
-use Rattle.moves_cert.specs.Rows.{near_in}
+use Rattle.moves_model.specs.Rows.{near_in}
 use Rattle.fib_addr.specs.Views.{prefix_as}
 use Rattle.fib_addr.specs.declared.prefix.Prefix as code_prefix
 use Rattle.fib_delta.specs.declared.change.Change as code

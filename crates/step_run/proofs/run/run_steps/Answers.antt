@@ -6,19 +6,19 @@ use Rattle.fib_addr.specs.Views.{entry_as}
 use Rattle.fib_prefix.specs.Views.{event_as}
 use Rattle.orig_tree.specs.Views.{InPlace}
 use Rattle.route_tries.specs.Sizes.{shortage, sizes_as}
-use Rattle.fib_engine.specs.Held.{routes_in}
-use Rattle.step_model.specs.Rows.{rows_text}
-use Rattle.step_script.specs.RowViews.{row_as}
+use Rattle.fib_engine.specs.Held.{engine_routes}
+use Rattle.step_script.specs.Rows.{rows_text}
+use Rattle.step_script.specs.RowViews.{step_row_as}
 use Rattle.step_script.specs.Steps.{step_as}
-use Rattle.step_world.specs.Stepping.{world_of}
+use Rattle.step_run.specs.Stepping.{world_of}
 use Rattle.step_run.proofs.Running.{in_place, somewhere, starts_so}
 use Rattle.step_run.proofs.run.run_steps.Goals as goal
 
 pub new-requires-clause-room : goal.new-requires-clause-room
 new-requires-clause-room c =
     let s = c.requires.stands.1 in
-    let same : map entry_as c.deref.result.now ≡ routes_in c.args.engine = ap (map entry_as) c.deref.ensures.value ∙ c.in_ok-routes.ensures in
-    subst (λ (L : Entries). shortage (sizes_as c.args.sizes.now) L ≡ None) (sym same) (subst (λ z. shortage z (routes_in c.args.engine) ≡ None) c.requires.sizes s.fits)
+    let same : map entry_as c.deref.result.now ≡ engine_routes c.args.engine = ap (map entry_as) c.deref.ensures.value ∙ c.in_ok-routes.ensures in
+    subst (λ (L : Entries). shortage (sizes_as c.args.sizes.now) L ≡ None) (sym same) (subst (λ z. shortage z (engine_routes c.args.engine) ≡ None) c.requires.sizes s.fits)
 
 pub new-requires-clause-order : goal.new-requires-clause-order
 new-requires-clause-order c =
@@ -66,4 +66,4 @@ returns-clause-text c = λ load s.
     let w = world_of (sizes_as c.args.sizes.now) load events in
     let first = c.in_ok-stepper.ensures.start w (starts_so load (elems_after (after_elems [] load) events) c.args.engine s _ _ _ _ _ _ same c.finish-turns.ensures.turns c.finish-turns.ensures.hops c.finish-turns.ensures.full (c.in_ok-turned.ensures load s)) in
     let run = c.in_ok-rows.ensures.runs w first in
-    (map row_as c.in_ok-rows.rows.items, run.0, run.1, c.in_ok-text.ensures ∙ ap (λ rows. rows_text 1 (map row_as rows)) c.deref-2.ensures.value)
+    (map step_row_as c.in_ok-rows.rows.items, run.0, run.1, c.in_ok-text.ensures ∙ ap (λ rows. rows_text 1 (map step_row_as rows)) c.deref-2.ensures.value)

@@ -1,6 +1,6 @@
 use Rattle.std.proofs.Common.{◌+◌, ◌≡◌, ◌∷◌, [], ◌++◌, map, subst, sym, ap, ◌∙◌}
 use Rattle.std.proofs.lemmas.List.{map-append}
-use Rattle.step_model.specs.Script.{Step}
+use Rattle.step_script.specs.Script.{Step}
 use Rattle.std.specs.Prelude.{List}
 use Rattle.step_script.specs.Steps.{step_as}
 use Rattle.step_script.proofs.Lines.{Left, empty_line, taken_line, bad_line, no_line}

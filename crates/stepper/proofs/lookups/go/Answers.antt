@@ -2,7 +2,7 @@ use Rattle.std.proofs.Common.{ap, ◌∙◌}
 use Rattle.std.specs.Prelude.{List}
 use Rattle.table_model.specs.Address.{Address}
 use Rattle.fib_addr.specs.Hops.{hop_at}
-use Rattle.step_model.specs.Rows.{went_on, not_open}
+use Rattle.step_script.specs.Rows.{went_on, not_open}
 use Rattle.stepper.proofs.Looking.{printed_as, answered_as}
 use Rattle.stepper.proofs.lookups.go.Goals as goal
 

@@ -1,5 +1,5 @@
 use Rattle.std.proofs.Common.{◌+◌, ◌≤◌, length}
-use Rattle.mrt_frame.specs.Framing.{framer_count, framer_left}
+use Rattle.mrt_read.specs.Framing.{framer_count, framer_left}
 use Rattle.wire_tests.proofs.frames.end_of.Given as goal
 
 abbrev pub invariant-loop-framed : goal.invariant-loop-framed

@@ -1,5 +1,5 @@
 use Rattle.std.proofs.Common.{sym, ap, ◌∙◌, arith}
-use Rattle.buddy_arena.specs.Space.{total}
+use Rattle.buddy_arena.specs.Space.{free_count}
 use Rattle.buddy_arena.specs.Masks.{free_of}
 use Rattle.buddy_arena.proofs.Masks.{free_len, ord_is}
 use Rattle.buddy_arena.proofs.Others.{lent_all}
@@ -8,7 +8,7 @@ use Rattle.buddy_arena.proofs.arena.Arena.take.Goals as goal
 pub invariant_of-self : goal.invariant_of-self
 invariant_of-self g c =
     let same = lent_all c.self.inside.masks.len c.take_from.new.masks c.self.inside.masks.items (c.take_from.auto.masks ∙ c.deref_mut.ensures.len) in
-    let old = ap (λ s. total (free_of c.self.inside.base c.self.inside.height s)) c.deref_mut.ensures.value in (
+    let old = ap (λ s. free_count (free_of c.self.inside.base c.self.inside.height s)) c.deref_mut.ensures.value in (
       c.self.invariant.0,
       c.self.invariant.1,
       rw same c.take_from.ensures.right,
@@ -25,7 +25,7 @@ invariant_of-self-in-Err g c =
       c.self.invariant.1,
       rw same c.take_from.ensures.right,
       c.self.invariant.3,
-      rw same (c.self.invariant.4 ∙ sym (ap (λ s. total (free_of c.self.inside.base c.self.inside.height s)) (c.in-Err.ensures.err ∙ c.deref_mut.ensures.value))),
+      rw same (c.self.invariant.4 ∙ sym (ap (λ s. free_count (free_of c.self.inside.base c.self.inside.height s)) (c.in-Err.ensures.err ∙ c.deref_mut.ensures.value))),
       c.self.invariant.5,
       c.self.invariant.6,
     )

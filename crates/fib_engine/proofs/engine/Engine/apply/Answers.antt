@@ -14,11 +14,11 @@ use Rattle.fib_engine.proofs.Erring.{err_is}
 use Rattle.fib_engine.proofs.Needing.{needs_known}
 use Rattle.fib_prefix.specs.Views.{elem_as}
 use Rattle.fib_delta.specs.Views.{change_as}
-use Rattle.fewest_feed.specs.Moved.{table_by}
+use Rattle.moves_model.specs.Moved.{table_by}
 use Rattle.route_choice.specs.Held.{IsChoice, pick_elem}
 use Rattle.route_choice.specs.declared.choice.Choice.{Choice}
-use Rattle.fib_engine.specs.Held.{AreKeptNeeds, Held, IsSound, if_loaded}
-use Rattle.fib_engine.specs.Stands.{Takes, changes_of, first_of, routes_after}
+use Rattle.fib_engine.specs.Held.{AreKeptNeeds, EngineState, IsSound, if_loaded}
+use Rattle.fib_engine.specs.Stands.{TakesElem, changes_of, first_of, routes_after}
 use Rattle.fib_engine.specs.Tables.{needs_put, route_in, table_of}
 use Rattle.fib_engine.specs.declared.tables.EventChanges.{EventChanges}
 use Rattle.fib_engine.proofs.Taking.{applied, are_alike, is_elem, kept_placed, not_over, shortest_first, stands_more, table_placed, turned_routes}
@@ -27,7 +27,7 @@ use Rattle.fib_engine.proofs.engine.Engine.apply.Goals as goal
 pub plan_fitting-requires-clause-order : goal.plan_fitting-requires-clause-order
 plan_fitting-requires-clause-order c =
     let t = c.self.inside in
-    let loaded : t.is_loaded ≡ true = ap (λ (e : Held). e.loaded) c.self.view_is ∙ c.requires.loaded in
+    let loaded : t.is_loaded ≡ true = ap (λ (e : EngineState). e.loaded) c.self.view_is ∙ c.requires.loaded in
     kept_placed t.candidates.candidates t.hops.list t.tables (subst (λ (b : Bool). IsSound t.candidates.candidates t.hops.list b t.tables) loaded c.self.invariant.0)
 
 pub plan_fitting-requires-clause-alike : goal.plan_fitting-requires-clause-alike
@@ -54,7 +54,7 @@ returns-in_err-fitting-clause-short c = λ full e.
     let H = t.hops.list in
     let z = sizes_as t.limits.sizes in
     let elem = elem_as c.args.elem.now in
-    let loaded : t.is_loaded ≡ true = ap (λ (e : Held). e.loaded) c.self.view_is ∙ c.requires.loaded in
+    let loaded : t.is_loaded ≡ true = ap (λ (e : EngineState). e.loaded) c.self.view_is ∙ c.requires.loaded in
     let s : IsSound C H true t.tables = subst (λ (b : Bool). IsSound C H b t.tables) loaded c.self.invariant.0 in
     let pick = c.in_ok-pick.pick in
     let choice = c.choice.result.now in
@@ -71,7 +71,7 @@ returns-in_err-fitting-clause-short c = λ full e.
     in
     let p = err_from_is_err_and c.from_residual-in_err-fitting.result c.from_residual-in_err-fitting.ensures.1 in
     let is : c.in_err-fitting.field-0.0 ≡ TrieFull full = sym p.2 ∙ err_is (sym p.1 ∙ e) in
-    subst (λ (h : Held). shortage h.sizes (routes_after elem h) ≡ Some (shortage_as full)) c.self.view_is (ap (first_short z) (sym put) ∙ c.in_err-fitting.ensures.short full (ap Err is))
+    subst (λ (h : EngineState). shortage h.sizes (routes_after elem h) ≡ Some (shortage_as full)) c.self.view_is (ap (first_short z) (sym put) ∙ c.in_err-fitting.ensures.short full (ap Err is))
 
 pub invariant_of-self-2 : goal.invariant_of-self-2
 invariant_of-self-2 c =
@@ -80,7 +80,7 @@ invariant_of-self-2 c =
     let H = t.hops.list in
     let z = sizes_as t.limits.sizes in
     let elem = elem_as c.args.elem.now in
-    let loaded : t.is_loaded ≡ true = ap (λ (e : Held). e.loaded) c.self.view_is ∙ c.requires.loaded in
+    let loaded : t.is_loaded ≡ true = ap (λ (e : EngineState). e.loaded) c.self.view_is ∙ c.requires.loaded in
     let s : IsSound C H true t.tables = subst (λ (b : Bool). IsSound C H b t.tables) loaded c.self.invariant.0 in
     let pick = c.in_ok-pick.pick in
     let choice = c.choice.result.now in
@@ -116,7 +116,7 @@ returns-clause-takes c =
     let H = t.hops.list in
     let z = sizes_as t.limits.sizes in
     let elem = elem_as c.args.elem.now in
-    let loaded : t.is_loaded ≡ true = ap (λ (e : Held). e.loaded) c.self.view_is ∙ c.requires.loaded in
+    let loaded : t.is_loaded ≡ true = ap (λ (e : EngineState). e.loaded) c.self.view_is ∙ c.requires.loaded in
     let s : IsSound C H true t.tables = subst (λ (b : Bool). IsSound C H b t.tables) loaded c.self.invariant.0 in
     let pick = c.in_ok-pick.pick in
     let choice = c.choice.result.now in
@@ -132,9 +132,9 @@ returns-clause-takes c =
     in
     let held : c.commit.new.self.candidates ≡ after_elem C elem = c.commit.ensures.candidates ∙ (ap (λ (X : Candidates). after_elem X (pick_elem pick)) c.plan.ensures.candidates ∙ ap (λ (e : Elem). after_elem C e) c.in_ok-pick.ensures.elem) in
     let hops : c.number_hop.new.hops.list ≡ hops_after H (elem ∷ []) = c.number_hop.ensures ∙ ap (λ (hs : List Address). hops_after hs (elem ∷ [])) c.room.ensures.list in
-    let new : Held = record { every = t.limits.every; fewest = t.limits.fewest; sizes = z; candidates = c.commit.new.self.candidates; hops = c.number_hop.new.hops.list; table = table_of c.commit-changes.new.self; loaded = t.is_loaded; events = t.events + 1; moves = c.moves_made-self-inside.result } in
-    let old : Held = record { every = t.limits.every; fewest = t.limits.fewest; sizes = z; candidates = C; hops = H; table = table_of t.tables; loaded = t.is_loaded; events = t.events; moves = t.moves } in
-    let first : Takes elem old new =
+    let new : EngineState = record { every = t.limits.every; fewest = t.limits.fewest; sizes = z; candidates = c.commit.new.self.candidates; hops = c.number_hop.new.hops.list; table = table_of c.commit-changes.new.self; loaded = t.is_loaded; events = t.events + 1; moves = c.moves_made-self-inside.result } in
+    let old : EngineState = record { every = t.limits.every; fewest = t.limits.fewest; sizes = z; candidates = C; hops = H; table = table_of t.tables; loaded = t.is_loaded; events = t.events; moves = t.moves } in
+    let first : TakesElem elem old new =
     record {
       candidates = held;
       hops = hops;
@@ -147,7 +147,7 @@ returns-clause-takes c =
       moves = c.moves_made-self-inside.ensures ∙ T.moves c.commit-changes.result.first (ap (λ (e : EventChanges). e.first) c.commit-changes.ensures.changes ∙ told.first);
     }
     in
-    let takes : Takes elem c.args.self.now new = subst (λ (o : Held). Takes elem o new) c.self.view_is first in
+    let takes : TakesElem elem c.args.self.now new = subst (λ (o : EngineState). TakesElem elem o new) c.self.view_is first in
     takes
 
 pub returns-clause-changes : goal.returns-clause-changes
@@ -157,7 +157,7 @@ returns-clause-changes c =
     let H = t.hops.list in
     let z = sizes_as t.limits.sizes in
     let elem = elem_as c.args.elem.now in
-    let loaded : t.is_loaded ≡ true = ap (λ (e : Held). e.loaded) c.self.view_is ∙ c.requires.loaded in
+    let loaded : t.is_loaded ≡ true = ap (λ (e : EngineState). e.loaded) c.self.view_is ∙ c.requires.loaded in
     let s : IsSound C H true t.tables = subst (λ (b : Bool). IsSound C H b t.tables) loaded c.self.invariant.0 in
     let pick = c.in_ok-pick.pick in
     let choice = c.choice.result.now in
@@ -171,7 +171,7 @@ returns-clause-changes c =
     applied t.limits.fewest t.limits.every (t.events + 1) C H c.room.new.self.list elem t.tables c.plan_fitting.new.tables c.commit-changes.new.self choice c.in_ok-own.own c.changed_route-route.result c.in_ok-fitting.fitting.plan.v4 c.in_ok-fitting.fitting.plan.v6 c.is_due-due.result s (is_elem c.args.elem.now) c.room.ensures.list
     (not_over (length (hops_after H (elem ∷ []))) c.in_ok-own.ensures.full.1) c.in_ok-own.ensures.number ch c.changed_route-route.ensures c.plan_fitting.ensures.tables told.put told.told c.commit-changes.ensures.routes c.commit-changes.ensures.v4 c.commit-changes.ensures.v6 c.is_due-due.ensures
     in
-    ap (λ (e : EventChanges). map change_as e.changes.items) c.commit-changes.ensures.changes ∙ (told.changes ∙ (T.changes ∙ ap (λ (o : Held). changes_of elem o) c.self.view_is))
+    ap (λ (e : EventChanges). map change_as e.changes.items) c.commit-changes.ensures.changes ∙ (told.changes ∙ (T.changes ∙ ap (λ (o : EngineState). changes_of elem o) c.self.view_is))
 
 pub returns-clause-first : goal.returns-clause-first
 returns-clause-first c =
@@ -180,7 +180,7 @@ returns-clause-first c =
     let H = t.hops.list in
     let z = sizes_as t.limits.sizes in
     let elem = elem_as c.args.elem.now in
-    let loaded : t.is_loaded ≡ true = ap (λ (e : Held). e.loaded) c.self.view_is ∙ c.requires.loaded in
+    let loaded : t.is_loaded ≡ true = ap (λ (e : EngineState). e.loaded) c.self.view_is ∙ c.requires.loaded in
     let s : IsSound C H true t.tables = subst (λ (b : Bool). IsSound C H b t.tables) loaded c.self.invariant.0 in
     let pick = c.in_ok-pick.pick in
     let choice = c.choice.result.now in
@@ -194,12 +194,12 @@ returns-clause-first c =
     applied t.limits.fewest t.limits.every (t.events + 1) C H c.room.new.self.list elem t.tables c.plan_fitting.new.tables c.commit-changes.new.self choice c.in_ok-own.own c.changed_route-route.result c.in_ok-fitting.fitting.plan.v4 c.in_ok-fitting.fitting.plan.v6 c.is_due-due.result s (is_elem c.args.elem.now) c.room.ensures.list
     (not_over (length (hops_after H (elem ∷ []))) c.in_ok-own.ensures.full.1) c.in_ok-own.ensures.number ch c.changed_route-route.ensures c.plan_fitting.ensures.tables told.put told.told c.commit-changes.ensures.routes c.commit-changes.ensures.v4 c.commit-changes.ensures.v6 c.is_due-due.ensures
     in
-    ap (λ (e : EventChanges). e.first) c.commit-changes.ensures.changes ∙ (told.first ∙ (ap length T.first ∙ ap (λ (o : Held). length (first_of elem o)) c.self.view_is))
+    ap (λ (e : EventChanges). e.first) c.commit-changes.ensures.changes ∙ (told.first ∙ (ap length T.first ∙ ap (λ (o : EngineState). length (first_of elem o)) c.self.view_is))
 
 pub returns-clause-shortest : goal.returns-clause-shortest
 returns-clause-shortest c =
     let t = c.self.inside in
-    shortest_first (elem_as c.args.elem.now) c.args.self.now (subst (λ (e : Held). InPlace e.table) c.self.view_is (table_placed t.candidates.candidates t.hops.list t.is_loaded t.tables c.self.invariant.0))
+    shortest_first (elem_as c.args.elem.now) c.args.self.now (subst (λ (e : EngineState). InPlace e.table) c.self.view_is (table_placed t.candidates.candidates t.hops.list t.is_loaded t.tables c.self.invariant.0))
 
 pub returns-clause-fits : goal.returns-clause-fits
 returns-clause-fits c =
@@ -208,7 +208,7 @@ returns-clause-fits c =
     let H = t.hops.list in
     let z = sizes_as t.limits.sizes in
     let elem = elem_as c.args.elem.now in
-    let loaded : t.is_loaded ≡ true = ap (λ (e : Held). e.loaded) c.self.view_is ∙ c.requires.loaded in
+    let loaded : t.is_loaded ≡ true = ap (λ (e : EngineState). e.loaded) c.self.view_is ∙ c.requires.loaded in
     let s : IsSound C H true t.tables = subst (λ (b : Bool). IsSound C H b t.tables) loaded c.self.invariant.0 in
     let pick = c.in_ok-pick.pick in
     let choice = c.choice.result.now in
@@ -236,7 +236,7 @@ returns-clause-stands c = λ load elems st.
     let H = t.hops.list in
     let z = sizes_as t.limits.sizes in
     let elem = elem_as c.args.elem.now in
-    let loaded : t.is_loaded ≡ true = ap (λ (e : Held). e.loaded) c.self.view_is ∙ c.requires.loaded in
+    let loaded : t.is_loaded ≡ true = ap (λ (e : EngineState). e.loaded) c.self.view_is ∙ c.requires.loaded in
     let s : IsSound C H true t.tables = subst (λ (b : Bool). IsSound C H b t.tables) loaded c.self.invariant.0 in
     let pick = c.in_ok-pick.pick in
     let choice = c.choice.result.now in
@@ -260,9 +260,9 @@ returns-clause-stands c = λ load elems st.
     let hops : c.number_hop.new.hops.list ≡ hops_after H (elem ∷ []) = c.number_hop.ensures ∙ ap (λ (hs : List Address). hops_after hs (elem ∷ [])) c.room.ensures.list in
     let routes : entries_of c.number_hop.new.hops.list c.commit.new.self.candidates ≡ N = ap (λ (hs : List Address). entries_of hs c.commit.new.self.candidates) hops ∙ ap (entries_of (hops_after H (elem ∷ []))) held in
     let fit : shortage z N ≡ None = ap (first_short z) (sym put) ∙ c.in_ok-fitting.ensures.fits in
-    let new : Held = record { every = t.limits.every; fewest = t.limits.fewest; sizes = z; candidates = c.commit.new.self.candidates; hops = c.number_hop.new.hops.list; table = table_of c.commit-changes.new.self; loaded = t.is_loaded; events = t.events + 1; moves = c.moves_made-self-inside.result } in
-    let old : Held = record { every = t.limits.every; fewest = t.limits.fewest; sizes = z; candidates = C; hops = H; table = table_of t.tables; loaded = t.is_loaded; events = t.events; moves = t.moves } in
-    let first : Takes elem old new =
+    let new : EngineState = record { every = t.limits.every; fewest = t.limits.fewest; sizes = z; candidates = c.commit.new.self.candidates; hops = c.number_hop.new.hops.list; table = table_of c.commit-changes.new.self; loaded = t.is_loaded; events = t.events + 1; moves = c.moves_made-self-inside.result } in
+    let old : EngineState = record { every = t.limits.every; fewest = t.limits.fewest; sizes = z; candidates = C; hops = H; table = table_of t.tables; loaded = t.is_loaded; events = t.events; moves = t.moves } in
+    let first : TakesElem elem old new =
     record {
       candidates = held;
       hops = hops;
@@ -275,5 +275,5 @@ returns-clause-stands c = λ load elems st.
       moves = c.moves_made-self-inside.ensures ∙ T.moves c.commit-changes.result.first (ap (λ (e : EventChanges). e.first) c.commit-changes.ensures.changes ∙ told.first);
     }
     in
-    let takes : Takes elem c.args.self.now new = subst (λ (o : Held). Takes elem o new) c.self.view_is first in
+    let takes : TakesElem elem c.args.self.now new = subst (λ (o : EngineState). TakesElem elem o new) c.self.view_is first in
     stands_more load elems elem c.args.self.now new (is_elem c.args.elem.now) takes (ap (shortage z) routes ∙ fit) st

@@ -6,7 +6,7 @@ use Rattle.route_tries.specs.declared.sizes.TrieFull.{TrieFull}
 use Rattle.fib_engine.proofs.Needing.{counted, counted_short, needs_known}
 use Rattle.fib_engine.proofs.Erring.{err_is, is_full}
 use Rattle.kept_model.specs.Kept.{kept_at_load}
-use Rattle.fib_engine.specs.Held.{Held, IsSound, routes_in}
+use Rattle.fib_engine.specs.Held.{EngineState, IsSound, engine_routes}
 use Rattle.fib_engine.specs.Tables.{AreOfRoutes, table_of}
 use Rattle.fib_engine.proofs.Taking.{sound_end, table_end, stands_end}
 use Rattle.fib_engine.proofs.engine.Engine.finish_load.Goals as goal
@@ -14,8 +14,8 @@ use Rattle.fib_engine.proofs.engine.Engine.finish_load.Goals as goal
 pub invariant_of-self : goal.invariant_of-self
 invariant_of-self c =
     let t = c.self.inside in
-    let s = subst (λ (b : Bool). IsSound t.candidates.candidates t.hops.list b t.tables) (ap (λ (e : Held). e.loaded) c.self.view_is ∙ c.requires) c.self.invariant.0 in
-    let a = subst (λ (e : Held). AreOfRoutes (routes_in e) c.in_ok-tables.tables) (sym c.self.view_is) c.in_ok-tables.ensures in
+    let s = subst (λ (b : Bool). IsSound t.candidates.candidates t.hops.list b t.tables) (ap (λ (e : EngineState). e.loaded) c.self.view_is ∙ c.requires) c.self.invariant.0 in
+    let a = subst (λ (e : EngineState). AreOfRoutes (engine_routes e) c.in_ok-tables.tables) (sym c.self.view_is) c.in_ok-tables.ensures in
     let z = sizes_as t.limits.sizes in
     let E = entries_of t.hops.list t.candidates.candidates in
     let is : c.needs-needs.result ≡ told_needs (needs_of z.direct E) = c.needs-needs.ensures ∙ ap told_needs (needs_known z.direct c.in_ok-tables.tables.v4.routes c.in_ok-tables.tables.v6.routes E a.v4 a.v6) in (
@@ -26,7 +26,7 @@ invariant_of-self c =
 pub returns-clause-fits : goal.returns-clause-fits
 returns-clause-fits c =
     let t = c.self.inside in
-    let a = subst (λ (e : Held). AreOfRoutes (routes_in e) c.in_ok-tables.tables) (sym c.self.view_is) c.in_ok-tables.ensures in
+    let a = subst (λ (e : EngineState). AreOfRoutes (engine_routes e) c.in_ok-tables.tables) (sym c.self.view_is) c.in_ok-tables.ensures in
     let z = sizes_as t.limits.sizes in
     let E = entries_of t.hops.list t.candidates.candidates in
     let is : c.needs-needs.result ≡ told_needs (needs_of z.direct E) = c.needs-needs.ensures ∙ ap told_needs (needs_known z.direct c.in_ok-tables.tables.v4.routes c.in_ok-tables.tables.v6.routes E a.v4 a.v6) in
@@ -35,40 +35,40 @@ returns-clause-fits c =
 pub returns-in_err-fit-clause-short : goal.returns-in_err-fit-clause-short
 returns-in_err-fit-clause-short c = λ full e.
     let t = c.self.inside in
-    let a = subst (λ (e : Held). AreOfRoutes (routes_in e) c.in_ok-tables.tables) (sym c.self.view_is) c.in_ok-tables.ensures in
+    let a = subst (λ (e : EngineState). AreOfRoutes (engine_routes e) c.in_ok-tables.tables) (sym c.self.view_is) c.in_ok-tables.ensures in
     let z = sizes_as t.limits.sizes in
     let E = entries_of t.hops.list t.candidates.candidates in
     let is : c.needs-needs.result ≡ told_needs (needs_of z.direct E) = c.needs-needs.ensures ∙ ap told_needs (needs_known z.direct c.in_ok-tables.tables.v4.routes c.in_ok-tables.tables.v6.routes E a.v4 a.v6) in
     let p = err_from_is_err_and c.from_residual-in_err-fit.result c.from_residual-in_err-fit.ensures.1 in
     let same = is_full (sym p.2 ∙ err_is (sym p.1 ∙ e)) in
-    subst (λ (h : Held). shortage h.sizes (routes_in h) ≡ Some (shortage_as full)) c.self.view_is (counted_short z t.limits.sizes.few_nodes t.limits.sizes.few_leaves E c.needs-needs.result is (shortage_as full) (c.in_err-fit.ensures.short ∙ ap (λ (x : TrieFull). Some (shortage_as x)) same))
+    subst (λ (h : EngineState). shortage h.sizes (engine_routes h) ≡ Some (shortage_as full)) c.self.view_is (counted_short z t.limits.sizes.few_nodes t.limits.sizes.few_leaves E c.needs-needs.result is (shortage_as full) (c.in_err-fit.ensures.short ∙ ap (λ (x : TrieFull). Some (shortage_as x)) same))
 
 pub returns-clause-ends : goal.returns-clause-ends
 returns-clause-ends c =
     let t = c.self.inside in
-    let s = subst (λ (b : Bool). IsSound t.candidates.candidates t.hops.list b t.tables) (ap (λ (e : Held). e.loaded) c.self.view_is ∙ c.requires) c.self.invariant.0 in
-    let a = subst (λ (e : Held). AreOfRoutes (routes_in e) c.in_ok-tables.tables) (sym c.self.view_is) c.in_ok-tables.ensures in
+    let s = subst (λ (b : Bool). IsSound t.candidates.candidates t.hops.list b t.tables) (ap (λ (e : EngineState). e.loaded) c.self.view_is ∙ c.requires) c.self.invariant.0 in
+    let a = subst (λ (e : EngineState). AreOfRoutes (engine_routes e) c.in_ok-tables.tables) (sym c.self.view_is) c.in_ok-tables.ensures in
     let there = table_end t.candidates.candidates t.hops.list t.tables c.in_ok-tables.tables c.in_ok-tables-2.tables s a c.in_ok-tables-2.ensures.routes c.in_ok-tables-2.ensures.v4 c.in_ok-tables-2.ensures.v6 in
     record {
-      candidates = ap (λ (e : Held). e.candidates) c.self.view_is;
-      hops = ap (λ (e : Held). e.hops) c.self.view_is;
-      every = ap (λ (e : Held). e.every) c.self.view_is;
-      fewest = ap (λ (e : Held). e.fewest) c.self.view_is;
-      sizes = ap (λ (e : Held). e.sizes) c.self.view_is;
-      table = there ∙ ap (λ (e : Held). kept_at_load e.hops e.candidates) c.self.view_is;
+      candidates = ap (λ (e : EngineState). e.candidates) c.self.view_is;
+      hops = ap (λ (e : EngineState). e.hops) c.self.view_is;
+      every = ap (λ (e : EngineState). e.every) c.self.view_is;
+      fewest = ap (λ (e : EngineState). e.fewest) c.self.view_is;
+      sizes = ap (λ (e : EngineState). e.sizes) c.self.view_is;
+      table = there ∙ ap (λ (e : EngineState). kept_at_load e.hops e.candidates) c.self.view_is;
       loaded = refl;
-      events = ap (λ (e : Held). e.events) c.self.view_is;
-      moves = ap (λ (e : Held). e.moves) c.self.view_is;
+      events = ap (λ (e : EngineState). e.events) c.self.view_is;
+      moves = ap (λ (e : EngineState). e.moves) c.self.view_is;
     }
 
 pub returns-clause-stands : goal.returns-clause-stands
 returns-clause-stands c = λ load st.
     let t = c.self.inside in
-    let s = subst (λ (b : Bool). IsSound t.candidates.candidates t.hops.list b t.tables) (ap (λ (e : Held). e.loaded) c.self.view_is ∙ c.requires) c.self.invariant.0 in
-    let a = subst (λ (e : Held). AreOfRoutes (routes_in e) c.in_ok-tables.tables) (sym c.self.view_is) c.in_ok-tables.ensures in
+    let s = subst (λ (b : Bool). IsSound t.candidates.candidates t.hops.list b t.tables) (ap (λ (e : EngineState). e.loaded) c.self.view_is ∙ c.requires) c.self.invariant.0 in
+    let a = subst (λ (e : EngineState). AreOfRoutes (engine_routes e) c.in_ok-tables.tables) (sym c.self.view_is) c.in_ok-tables.ensures in
     let z = sizes_as t.limits.sizes in
     let E = entries_of t.hops.list t.candidates.candidates in
     let is : c.needs-needs.result ≡ told_needs (needs_of z.direct E) = c.needs-needs.ensures ∙ ap told_needs (needs_known z.direct c.in_ok-tables.tables.v4.routes c.in_ok-tables.tables.v6.routes E a.v4 a.v6) in
     let there = table_end t.candidates.candidates t.hops.list t.tables c.in_ok-tables.tables c.in_ok-tables-2.tables s a c.in_ok-tables-2.ensures.routes c.in_ok-tables-2.ensures.v4 c.in_ok-tables-2.ensures.v6 in
-    let new : Held = record { every = t.limits.every; fewest = t.limits.fewest; sizes = sizes_as t.limits.sizes; candidates = t.candidates.candidates; hops = t.hops.list; table = table_of c.in_ok-tables-2.tables; loaded = true; events = t.events; moves = t.moves } in
-    stands_end load c.args.self.now new (ap (λ (e : Held). e.candidates) c.self.view_is) (ap (λ (e : Held). e.hops) c.self.view_is) (there ∙ ap (λ (e : Held). kept_at_load e.hops e.candidates) c.self.view_is) refl (ap (λ (e : Held). e.events) c.self.view_is) (counted z t.limits.sizes.few_nodes t.limits.sizes.few_leaves E c.needs-needs.result is c.in_ok-fit.ensures.ok).fit st
+    let new : EngineState = record { every = t.limits.every; fewest = t.limits.fewest; sizes = sizes_as t.limits.sizes; candidates = t.candidates.candidates; hops = t.hops.list; table = table_of c.in_ok-tables-2.tables; loaded = true; events = t.events; moves = t.moves } in
+    stands_end load c.args.self.now new (ap (λ (e : EngineState). e.candidates) c.self.view_is) (ap (λ (e : EngineState). e.hops) c.self.view_is) (there ∙ ap (λ (e : EngineState). kept_at_load e.hops e.candidates) c.self.view_is) refl (ap (λ (e : EngineState). e.events) c.self.view_is) (counted z t.limits.sizes.few_nodes t.limits.sizes.few_leaves E c.needs-needs.result is c.in_ok-fit.ensures.ok).fit st

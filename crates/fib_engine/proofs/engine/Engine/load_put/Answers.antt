@@ -8,7 +8,7 @@ use Rattle.fib_addr.specs.Views.{addr_as}
 use Rattle.fib_prefix.specs.declared.event.Elem.TheVariants.{Put}
 use Rattle.route_choice.specs.Held.{put_as}
 use Rattle.route_tries.specs.Sizes.{sizes_as}
-use Rattle.fib_engine.specs.Held.{AreKeptNeeds, Held, if_loaded}
+use Rattle.fib_engine.specs.Held.{AreKeptNeeds, EngineState, if_loaded}
 use Rattle.fib_engine.specs.Tables.{table_of}
 use Rattle.fib_engine.proofs.Taking.{sound_load, loading_more, is_elem, not_over}
 use Rattle.fib_engine.proofs.engine.Engine.load_put.Goals as goal
@@ -16,7 +16,7 @@ use Rattle.fib_engine.proofs.engine.Engine.load_put.Goals as goal
 pub invariant_of-self-2 : goal.invariant_of-self-2
 invariant_of-self-2 c =
     let t = c.self.inside in
-    let unloaded : t.is_loaded ≡ false = ap (λ (e : Held). e.loaded) c.self.view_is ∙ c.requires in
+    let unloaded : t.is_loaded ≡ false = ap (λ (e : EngineState). e.loaded) c.self.view_is ∙ c.requires in
     let elem = put_as c.args.via.now c.args.prefix.now c.args.path c.args.hop.now in
     let hops : c.number_route.new.hops.list ≡ hops_after t.hops.list (elem ∷ []) = c.number_route.ensures ∙ ap (λ (hs : List Address). with_hop hs (addr_as c.args.hop.now)) c.room.ensures.list in (
       sound_load t.candidates.candidates c.load_put.new.self.candidates t.hops.list c.number_route.new.hops.list elem t.is_loaded t.tables unloaded c.self.invariant.0 (is_elem (Put c.args.via.now c.args.prefix.now c.args.path c.args.hop.now)) c.in_ok-load_put.ensures.candidates hops
@@ -28,7 +28,7 @@ pub returns-clause-loading : goal.returns-clause-loading
 returns-clause-loading c = λ load s.
     let t = c.self.inside in
     let elem = put_as c.args.via.now c.args.prefix.now c.args.path c.args.hop.now in
-    let new : Held = record { every = t.limits.every; fewest = t.limits.fewest; sizes = sizes_as t.limits.sizes; candidates = c.load_put.new.self.candidates; hops = c.number_route.new.hops.list; table = table_of t.tables; loaded = t.is_loaded; events = t.events; moves = t.moves } in
-    loading_more load elem c.args.self.now new (is_elem (Put c.args.via.now c.args.prefix.now c.args.path c.args.hop.now)) (c.in_ok-load_put.ensures.candidates ∙ ap (λ (e : Held). after_elem e.candidates elem) c.self.view_is)
-    (c.number_route.ensures ∙ (ap (λ (hs : List Address). with_hop hs (addr_as c.args.hop.now)) c.room.ensures.list ∙ ap (λ (e : Held). hops_after e.hops (elem ∷ [])) c.self.view_is))
-    (ap (λ (e : Held). e.table) c.self.view_is) (ap (λ (e : Held). e.loaded) c.self.view_is) (ap (λ (e : Held). e.events) c.self.view_is) (ap (λ (e : Held). e.moves) c.self.view_is) s
+    let new : EngineState = record { every = t.limits.every; fewest = t.limits.fewest; sizes = sizes_as t.limits.sizes; candidates = c.load_put.new.self.candidates; hops = c.number_route.new.hops.list; table = table_of t.tables; loaded = t.is_loaded; events = t.events; moves = t.moves } in
+    loading_more load elem c.args.self.now new (is_elem (Put c.args.via.now c.args.prefix.now c.args.path c.args.hop.now)) (c.in_ok-load_put.ensures.candidates ∙ ap (λ (e : EngineState). after_elem e.candidates elem) c.self.view_is)
+    (c.number_route.ensures ∙ (ap (λ (hs : List Address). with_hop hs (addr_as c.args.hop.now)) c.room.ensures.list ∙ ap (λ (e : EngineState). hops_after e.hops (elem ∷ [])) c.self.view_is))
+    (ap (λ (e : EngineState). e.table) c.self.view_is) (ap (λ (e : EngineState). e.loaded) c.self.view_is) (ap (λ (e : EngineState). e.events) c.self.view_is) (ap (λ (e : EngineState). e.moves) c.self.view_is) s

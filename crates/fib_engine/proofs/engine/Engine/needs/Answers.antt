@@ -2,13 +2,13 @@ use Rattle.std.proofs.Common.{ap, subst, ◌∙◌}
 use Rattle.route_tries.specs.Sizes.{AreFew, sizes_as, needs_of}
 use Rattle.route_tries.specs.declared.needs.FamilyNeeds.{FamilyNeeds}
 use Rattle.route_tries.proofs.Short.{fit_few}
-use Rattle.fib_engine.specs.Held.{Held, if_loaded, routes_told}
+use Rattle.fib_engine.specs.Held.{EngineState, if_loaded, routes_told}
 use Rattle.kept_model.specs.Feed.{entries_of}
 use Rattle.std.proofs.Common.{sym}
 use Rattle.fib_engine.proofs.engine.Engine.needs.Goals as goal
 
 pub returns-clause-needs : goal.returns-clause-needs
-returns-clause-needs c = c.self.invariant.1.needs ∙ ap (λ (h : Held). needs_of h.sizes.direct (routes_told h)) c.self.view_is
+returns-clause-needs c = c.self.invariant.1.needs ∙ ap (λ (h : EngineState). needs_of h.sizes.direct (routes_told h)) c.self.view_is
 
 pub returns-clause-few : goal.returns-clause-few
 returns-clause-few c =

@@ -6,7 +6,7 @@ use Rattle.table_model.specs.Entries.{Entries, in_order}
 use Rattle.route_model.specs.Choice.{routes_of}
 use Rattle.fib_addr.specs.Views.{entry_as}
 use Rattle.orig_tree.specs.Views.{InPlace}
-use Rattle.fib_engine.specs.Held.{Held, routes_in}
+use Rattle.fib_engine.specs.Held.{EngineState, engine_routes}
 use Rattle.fib_engine.specs.Tables.{only}
 use Rattle.fib_engine.proofs.Numbering.{numbers_least}
 use Rattle.fib_engine.proofs.Taking.{put_in_order, routes_have, routes_placed}
@@ -16,15 +16,15 @@ pub load-requires : goal.load-requires
 load-requires c =
     let t = c.self.inside in
     let C = t.candidates.candidates in
-    let is : map entry_as c.deref.result.now ≡ routes_in c.args.self.now = ap (map entry_as) c.deref.ensures.value ∙ c.in_ok-routes.ensures in
-    subst (λ (E : Entries). AllByRecursion (λ (r : Prefix × ℕ). 1 ≤ r.1) E) (sym (is ∙ ap routes_in (sym c.self.view_is))) (numbers_least t.hops.list (routes_of C) (routes_have C t.hops.list t.is_loaded t.tables c.self.invariant.0))
+    let is : map entry_as c.deref.result.now ≡ engine_routes c.args.self.now = ap (map entry_as) c.deref.ensures.value ∙ c.in_ok-routes.ensures in
+    subst (λ (E : Entries). AllByRecursion (λ (r : Prefix × ℕ). 1 ≤ r.1) E) (sym (is ∙ ap engine_routes (sym c.self.view_is))) (numbers_least t.hops.list (routes_of C) (routes_have C t.hops.list t.is_loaded t.tables c.self.invariant.0))
 
 pub returns : goal.returns
 returns c =
     let t = c.self.inside in
-    let E = routes_in c.args.self.now in
+    let E = engine_routes c.args.self.now in
     let is : map entry_as c.deref.result.now ≡ E = ap (map entry_as) c.deref.ensures.value ∙ c.in_ok-routes.ensures in
-    let placed = subst (λ (e : Held). InPlace (routes_in e)) c.self.view_is (routes_placed t.candidates.candidates t.hops.list t.is_loaded t.tables c.self.invariant.0) in
+    let placed = subst (λ (e : EngineState). InPlace (engine_routes e)) c.self.view_is (routes_placed t.candidates.candidates t.hops.list t.is_loaded t.tables c.self.invariant.0) in
     let given = c.in_ok-tables.ensures.given in
     record {
       families = c.in_ok-tables.ensures.both;

@@ -3,7 +3,7 @@ use Rattle.table_model.specs.declared.family.Family.TheVariants.{V4, V6}
 use Rattle.table_model.specs.Entries.{of_family}
 use Rattle.orig_tree.specs.Views.{Labels}
 use Rattle.kept_model.specs.Feed.{entries_of}
-use Rattle.fib_engine.specs.Held.{Held, if_loaded, routes_told}
+use Rattle.fib_engine.specs.Held.{EngineState, if_loaded, routes_told}
 use Rattle.route_tries.specs.Sizes.{Shortage, first_short, sizes_as}
 use Rattle.fib_engine.proofs.Holding.{of_only}
 use Rattle.fib_engine.proofs.Needing.{needs_known}
@@ -15,9 +15,9 @@ returns-in-Ok c =
     let s = c.self.invariant.0 in
     let E = if_loaded t.is_loaded (entries_of t.hops.list t.candidates.candidates) in
     record {
-      direct = c.in-Ok.ensures.direct ∙ ap (λ (h : Held). h.sizes.direct) c.self.view_is;
-      v4 = ap (of_family V4) (c.in-Ok.ensures.routes.0 ∙ (ap (λ (l : Labels). l.routes) c.tree-v4.ensures ∙ s.v4.routes)) ∙ (of_only V4 E ∙ ap (λ (h : Held). of_family V4 (routes_told h)) c.self.view_is);
-      v6 = ap (of_family V6) (c.in-Ok.ensures.routes.1 ∙ (ap (λ (l : Labels). l.routes) c.tree-v6.ensures ∙ s.v6.routes)) ∙ (of_only V6 E ∙ ap (λ (h : Held). of_family V6 (routes_told h)) c.self.view_is);
+      direct = c.in-Ok.ensures.direct ∙ ap (λ (h : EngineState). h.sizes.direct) c.self.view_is;
+      v4 = ap (of_family V4) (c.in-Ok.ensures.routes.0 ∙ (ap (λ (l : Labels). l.routes) c.tree-v4.ensures ∙ s.v4.routes)) ∙ (of_only V4 E ∙ ap (λ (h : EngineState). of_family V4 (routes_told h)) c.self.view_is);
+      v6 = ap (of_family V6) (c.in-Ok.ensures.routes.1 ∙ (ap (λ (l : Labels). l.routes) c.tree-v6.ensures ∙ s.v6.routes)) ∙ (of_only V6 E ∙ ap (λ (h : EngineState). of_family V6 (routes_told h)) c.self.view_is);
     }
 
 pub unreachable-requires : goal.unreachable-requires

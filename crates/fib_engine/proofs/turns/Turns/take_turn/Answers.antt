@@ -10,7 +10,7 @@ use Rattle.fib_prefix.specs.Views.{elem_as}
 use Rattle.route_choice.specs.Held.{IsChoice, pick_elem}
 use Rattle.route_choice.specs.declared.choice.Choice.{Choice}
 use Rattle.fib_engine.specs.Numbers.{HasNumber, IsNewNumber}
-use Rattle.fib_engine.specs.Turns.{TakesTurn, Turning, turn_as, turn_of}
+use Rattle.fib_engine.specs.Turns.{TakesTurn, Turning, turn_as, elem_turn}
 use Rattle.fib_engine.proofs.Turning.{route_turn}
 use Rattle.fib_engine.proofs.turns.Turns.take_turn.Goals as goal
 
@@ -45,7 +45,7 @@ returns c =
           let route = c.changed_route-turn.ensures H' elem (ap (λ (hs : List Address). hops_after hs (elem ∷ [])) (sym c.room.ensures.list)) new has in
           ap (map turn_as) c.in_ok-push.ensures.items
           ∙ (map_push turn_as t.turns.items c.changed_route-turn.result
-          ∙ (ap (λ x. map turn_as t.turns.items ++ x ∷ []) (route_turn C elem choice ch H' c.changed_route-turn.result route) ∙ ap (λ (hs : List Address). map turn_as t.turns.items ++ turn_of hs C elem ∷ []) (sym hops)));
+          ∙ (ap (λ x. map turn_as t.turns.items ++ x ∷ []) (route_turn C elem choice ch H' c.changed_route-turn.result route) ∙ ap (λ (hs : List Address). map turn_as t.turns.items ++ elem_turn hs C elem ∷ []) (sym hops)));
       is_full = refl;
     }
     in

@@ -2,7 +2,7 @@ use Rattle.std.proofs.Common.{◌∙◌, ap, sym, subst, rules}
 use Rattle.std.specs.Prelude.{◌≡◌, ℕ, [], ◌∷◌, ◌++◌, length, Some, None, Result, Ok}
 use Rattle.std.specs.List.{position}
 use Rattle.fib_io.specs.declared.InFault.{InFault}
-use Rattle.fib_io.specs.Files.{AllOpen, AllStand, has_name, IsOpen, ReadsName, Stands}
+use Rattle.fib_io.specs.Files.{AllOpen, AllStand, has_name, IsOpen, ReadsContent, StandsAfter}
 use Rattle.fib_io.proofs.Calls.{opened_stands}
 use Rattle.fib_io.proofs.Opened.{keeps_pushed, met_pushed, named_is, opens_again, opens_first, opens_not, place_pushed}
 use Rattle.fib_io.proofs.Places.{all_pushed}
@@ -44,13 +44,13 @@ invariant_of-self-2 g c =
     let calls = g.N.Reader.ReadSeek.calls in
     let input = c.in_ok-input.input in
     let before = g.N.ByName.content c.args.self.now.files in
-    let opened : ReadsName before octets position input = subst (λ n. IsOpen (before n) (octets input.reader) (position input.reader) input.place) (sym c.in_ok-input.ensures.named) c.in_ok-input.ensures.reads in
+    let opened : ReadsContent before octets position input = subst (λ n. IsOpen (before n) (octets input.reader) (position input.reader) input.place) (sym c.in_ok-input.ensures.named) c.in_ok-input.ensures.reads in
     let reading : AllOpen before octets position c.reserve.new.self.items = subst (AllOpen before octets position) (sym c.reserve.ensures.items) c.args.self.now.reading in
     let standing : AllStand calls c.reserve.new.self.items = subst (AllStand calls) (sym c.reserve.ensures.items) c.args.self.now.standing in
     record {
       reading = subst (λ content. AllOpen content octets position c.push_reserved.new.self.items) (sym c.open_input.ensures.same)
-          (all_pushed (ReadsName before octets position) c.reserve.new.self.items c.push_reserved.new.self.items input c.push_reserved.ensures.items reading opened);
-      standing = all_pushed (λ other. Stands (calls other.reader) other.place) c.reserve.new.self.items c.push_reserved.new.self.items input c.push_reserved.ensures.items standing
+          (all_pushed (ReadsContent before octets position) c.reserve.new.self.items c.push_reserved.new.self.items input c.push_reserved.ensures.items reading opened);
+      standing = all_pushed (λ other. StandsAfter (calls other.reader) other.place) c.reserve.new.self.items c.push_reserved.new.self.items input c.push_reserved.ensures.items standing
           (opened_stands (calls input.reader) input.place c.in_ok-input.ensures.start c.in_ok-input.ensures.fresh);
     }
 

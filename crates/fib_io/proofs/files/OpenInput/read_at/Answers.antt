@@ -1,6 +1,6 @@
 use Rattle.std.proofs.Common.{◌∙◌, ap, sym, subst, ◌+◌, Some}
 use Rattle.std.specs.Option.{is_some}
-use Rattle.fib_io.specs.Files.{Stands}
+use Rattle.fib_io.specs.Files.{StandsAfter}
 use Rattle.fib_io.proofs.Calls.{gave_stands}
 use Rattle.fib_io.proofs.Places.{value_is}
 use Rattle.fib_io.proofs.files.OpenInput.read_at.Goals as goal
@@ -28,4 +28,4 @@ pub returns-clause-stands : goal.returns-clause-stands
 returns-clause-stands g c stood =
     let before = g.R.ReadSeek.calls c.go_to.new.self.reader in
     gave_stands before (g.R.ReadSeek.calls c.read_on.new.self) _ c.args.at c.in_ok-n.n c.checked_add-self.result (λ h. h) c.checked_add-self.ensures c.in_ok-n.ensures.met
-    (subst (Stands before) c.in_ok-go_to.ensures.at (c.in_ok-go_to.ensures.stands stood))
+    (subst (StandsAfter before) c.in_ok-go_to.ensures.at (c.in_ok-go_to.ensures.stands stood))

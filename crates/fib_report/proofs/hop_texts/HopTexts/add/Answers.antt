@@ -1,5 +1,5 @@
 use Rattle.std.proofs.Common.{subst}
-use Rattle.printed_model.specs.Rows.{IsHop}
+use Rattle.printed_text.specs.Rows.{IsHop}
 use Rattle.fib_report.proofs.Proper.{hop_proper}
 use Rattle.fib_report.proofs.hop_texts.HopTexts.add.Goals as goal
 

@@ -1,7 +1,7 @@
 use Rattle.std.proofs.Common.{◌∙◌, Err, ap, sym, map}
 use Rattle.std.proofs.lemmas.Result.{err_from_is_err_and}
 use Rattle.fib_addr.specs.Views.{addr_as}
-use Rattle.printed_model.specs.Texts.{line_texts}
+use Rattle.printed_text.specs.Texts.{line_texts}
 use Rattle.fib_run.specs.Asking.{asks_behind}
 use Rattle.fib_run.proofs.AskReading.{ends_read, whole_asks}
 use Rattle.fib_run.proofs.asks.AskReader.finish.Goals as goal

@@ -4,7 +4,7 @@ use Rattle.std.specs.Map.{keys_of}
 use Rattle.table_model.specs.Order.{prefix_cmp}
 use Rattle.table_model.specs.Entries.{Entries}
 use Rattle.table_model.specs.Changes.{additions}
-use Rattle.steady_feed.specs.Told.{steady_if}
+use Rattle.kept_model.specs.Told.{steady_if}
 use Rattle.fib_addr.specs.Views.{entry_as}
 use Rattle.fib_run.proofs.Steps.{all_changed, ends_short, load_ended, of_load}
 use Rattle.fib_run.proofs.state.State.finish_load.Goals as goal

@@ -1,5 +1,5 @@
 use Rattle.std.proofs.Common.{ap, option_map}
-use Rattle.mrt_frame.specs.Records.{fault_of}
+use Rattle.mrt_read.specs.Records.{fault_of}
 use Rattle.mrt_read.proofs.Standing.{ends_as, tells, tells_refused}
 use Rattle.mrt_read.proofs.reader.Reader.finish.Goals as goal
 

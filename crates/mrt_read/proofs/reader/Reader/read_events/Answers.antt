@@ -1,5 +1,5 @@
 use Rattle.std.proofs.Common.{refl, ap, ◌+◌, option_map}
-use Rattle.mrt_frame.specs.Records.{fault_of}
+use Rattle.mrt_read.specs.Records.{fault_of}
 use Rattle.mrt_records.specs.Views.{peers_in}
 use Rattle.mrt_read.proofs.Standing.{refuses_again, refuses_rule, source, takes_events, went_on, went_wrong}
 use Rattle.mrt_read.proofs.reader.Reader.read_events.Goals as goal

@@ -1,6 +1,6 @@
 use Rattle.std.proofs.Common.{◌++◌, map, ap, ◌∙◌}
 use Rattle.fib_prefix.specs.Views.{peer_as}
-use Rattle.saved_model.specs.Checkpoint.{table_body}
+use Rattle.mrt_write.specs.Checkpoint.{table_body}
 use Rattle.mrt_write.proofs.Written.{part_is}
 use Rattle.mrt_write.proofs.Whole.{table_few}
 use Rattle.mrt_write.proofs.dump.DumpWriter.begin.Goals as goal

@@ -1,7 +1,7 @@
 use Rattle.std.proofs.Common.{◌++◌, length, map, sym, ap, ◌∙◌, arith}
 use Rattle.fib_prefix.specs.Views.{cand_as, peer_as}
-use Rattle.saved_model.specs.Entries.{entry_octets}
-use Rattle.saved_model.proofs.Sharing.{length_entry}
+use Rattle.mrt_write.specs.Entries.{entry_octets}
+use Rattle.mrt_write.proofs.Sharing.{length_entry}
 use Rattle.mrt_write.proofs.dump.DumpWriterCandSink.put.Goals as goal
 
 pub take_entry-requires-clause-short : goal.take_entry-requires-clause-short

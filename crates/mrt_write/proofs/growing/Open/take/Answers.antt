@@ -1,7 +1,7 @@
 use Rattle.std.proofs.Common.{ap, sym, ◌∙◌, ◌+◌, ◌%◌, ◌^◌, ◌++◌, refl, length}
 use Rattle.fib_prefix.specs.Views.{cand_as}
 use Rattle.mrt_write.specs.declared.growing.Open.{Open}
-use Rattle.octet_put.proofs.Written.{last_put}
+use Rattle.wire_model.proofs.Written.{last_put}
 use Rattle.mrt_write.proofs.Written.{on_ok}
 use Rattle.mrt_write.proofs.Closing.{open_grows, open_closes}
 use Rattle.mrt_write.proofs.growing.Open.take.Goals as goal

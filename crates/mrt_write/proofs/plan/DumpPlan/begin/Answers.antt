@@ -2,7 +2,7 @@ use Rattle.std.proofs.Common.{◌≡◌, ◌≤◌, length, map, None, sym, ap, 
 use Rattle.std.specs.Prelude.{option_map}
 use Rattle.std.proofs.lemmas.List.{length-map}
 use Rattle.fib_prefix.specs.Views.{cand_as, peer_as}
-use Rattle.saved_model.specs.Saved.{long_one, peers_with_candidates}
+use Rattle.mrt_write.specs.Saved.{long_one, peers_with_candidates}
 use Rattle.mrt_write.proofs.Whole.{begun_ready, begun_writes}
 use Rattle.mrt_write.proofs.plan.DumpPlan.begin.Goals as goal
 

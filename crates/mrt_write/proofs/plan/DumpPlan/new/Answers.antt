@@ -1,6 +1,6 @@
 use Rattle.std.proofs.Common.{map, refl, ap}
 use Rattle.fib_prefix.specs.Views.{peer_as}
-use Rattle.saved_model.specs.Saved.{peers_with_candidates}
+use Rattle.mrt_write.specs.Saved.{peers_with_candidates}
 use Rattle.mrt_write.proofs.plan.DumpPlan.new.Goals as goal
 
 pub returns-clause-knows : goal.returns-clause-knows

@@ -2,8 +2,8 @@ use Rattle.std.proofs.Common.{[], ◌∷◌, map, sym, ap, ◌∙◌}
 use Rattle.std.specs.Prelude.{◌||◌}
 use Rattle.std.specs.Option.{option_or}
 use Rattle.fib_prefix.specs.Views.{cand_as, peer_as}
-use Rattle.saved_model.specs.Checkpoint.{has_ids}
-use Rattle.saved_model.specs.Saved.{long_one}
+use Rattle.mrt_write.specs.Checkpoint.{has_ids}
+use Rattle.mrt_write.specs.Saved.{long_one}
 use Rattle.mrt_write.proofs.Gathered.{gather_more, gather_same}
 use Rattle.mrt_write.proofs.Indices.{present}
 use Rattle.mrt_write.proofs.Known.{ids_behind, long_behind}

@@ -3,7 +3,7 @@ use Rattle.table_model.specs.Entries.{of_table, with_entry}
 use Rattle.fib_addr.specs.Views.{entry_as}
 use Rattle.orig_tree.specs.Walk.{Walks}
 use Rattle.orig_tree.specs.Arena.{cells_of, whole}
-use Rattle.orig_tree.specs.Woven.{own_of}
+use Rattle.orig_tree.specs.Merged.{own_of}
 use Rattle.orig_tree.proofs.Places.{in_place_nil}
 use Rattle.orig_tree.proofs.tree.Tree.load.Goals as goal
 

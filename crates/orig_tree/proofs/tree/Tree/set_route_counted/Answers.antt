@@ -19,14 +19,14 @@ pub invariant_of-self : goal.invariant_of-self
 invariant_of-self g c =
     let f = c.self.inside.family in
     let old = cells_of c.self.inside.nodes in
-    let new = cells_of c.lay.new.nodes in
+    let new = cells_of c.insert_route.new.nodes in
     let e = c.in_err-room.ensures.err in (
-      c.lay.ensures.arena,
+      c.insert_route.ensures.arena,
       same_rows f (whole f old).routes (whole f new).routes (ap (λ (cs : List Node). (whole f cs).routes) e.0) c.self.invariant.1,
       same_rows f (whole f old).entries (whole f new).entries (ap (λ (cs : List Node). (whole f cs).entries) e.0) c.self.invariant.2,
-      c.lay.ensures.best,
-      c.lay.ensures.long,
-      can_same f old new (best_in c.self.inside.bests) (best_in c.lay.new.bests) c.self.inside.undo e.0 e.1 c.self.invariant.5,
+      c.insert_route.ensures.best,
+      c.insert_route.ensures.long,
+      can_same f old new (best_in c.self.inside.bests) (best_in c.insert_route.new.bests) c.self.inside.undo e.0 e.1 c.self.invariant.5,
     )
 
 pub invariant_of-self-2 : goal.invariant_of-self-2
@@ -36,7 +36,7 @@ invariant_of-self-2 g c =
     let l : length (bits_of p.len c.path_bits-q.result) ≤ width c.self.inside.family = omega (arith, length-bits_of p.len c.path_bits-q.result, p.fits, ap width fam) in
     let laid = c.in_ok-room.ensures.laid in
     let old = whole c.self.inside.family (cells_of c.self.inside.nodes) in
-    let new = whole c.self.inside.family (cells_of c.lay.new.nodes) in (
+    let new = whole c.self.inside.family (cells_of c.insert_route.new.nodes) in (
       c.in_ok-room.ensures.arena,
       in_place_put c.self.inside.family (bits_of p.len c.path_bits-q.result) c.args.hop.0 laid.middle.routes new.routes l (ap (λ (n : Walks). n.routes) laid.set) (same_rows c.self.inside.family old.routes laid.middle.routes laid.room.routes c.self.invariant.1),
       same_rows c.self.inside.family old.entries new.entries (ap (λ (n : Walks). n.entries) laid.set ∙ laid.room.entries) c.self.invariant.2,
@@ -51,7 +51,7 @@ returns-clause-routes g c =
     let fam : p.family ≡ c.self.inside.family = c.requires ∙ sym (ap (λ (s : Labels). s.family) c.self.view_is) in
     let l : length (bits_of p.len c.path_bits-q.result) ≤ width c.self.inside.family = omega (arith, length-bits_of p.len c.path_bits-q.result, p.fits, ap width fam) in
     let laid = c.in_ok-room.ensures.laid in
-    entries_put c.self.inside.family p.family (bits_of p.len c.path_bits-q.result) c.args.hop.0 (whole c.self.inside.family (cells_of c.self.inside.nodes)).routes (whole c.self.inside.family (cells_of c.lay.new.nodes)).routes laid.middle.routes c.args.self.now.routes l fam laid.room.routes (ap (λ (n : Walks). n.routes) laid.set) (ap (λ (s : Labels). s.routes) c.self.view_is) c.self.invariant.1
+    entries_put c.self.inside.family p.family (bits_of p.len c.path_bits-q.result) c.args.hop.0 (whole c.self.inside.family (cells_of c.self.inside.nodes)).routes (whole c.self.inside.family (cells_of c.insert_route.new.nodes)).routes laid.middle.routes c.args.self.now.routes l fam laid.room.routes (ap (λ (n : Walks). n.routes) laid.set) (ap (λ (s : Labels). s.routes) c.self.view_is) c.self.invariant.1
     ∙ ap (λ b. with_entry c.args.self.now.routes ((let x : Prefix = record { family = p.family; bits = b } in x), c.args.hop.0)) c.path_bits-q.ensures
 
 pub returns-clause-before : goal.returns-clause-before
@@ -63,7 +63,7 @@ returns-in_err-room-clause-steps g c =
     let p = c.args.prefix.now in
     let same : nodes_in (bits_of p.len c.path_bits-q.result) (whole f (cells_of c.self.inside.nodes)).nodes ≡ nodes_in (prefix_as p).bits c.args.self.now.nodes =
     ap (λ b. nodes_in b (whole f (cells_of c.self.inside.nodes)).nodes) c.path_bits-q.ensures ∙ ap (λ (s : Labels). nodes_in (prefix_as p).bits s.nodes) c.self.view_is in
-    omega (arith, c.lay.ensures.steps, same)
+    omega (arith, c.insert_route.ensures.steps, same)
 
 pub returns-clause-steps : goal.returns-clause-steps
 returns-clause-steps g c =
@@ -71,4 +71,4 @@ returns-clause-steps g c =
     let p = c.args.prefix.now in
     let same : nodes_in (bits_of p.len c.path_bits-q.result) (whole f (cells_of c.self.inside.nodes)).nodes ≡ nodes_in (prefix_as p).bits c.args.self.now.nodes =
     ap (λ b. nodes_in b (whole f (cells_of c.self.inside.nodes)).nodes) c.path_bits-q.ensures ∙ ap (λ (s : Labels). nodes_in (prefix_as p).bits s.nodes) c.self.view_is in
-    omega (arith, c.lay.ensures.steps, same)
+    omega (arith, c.insert_route.ensures.steps, same)

@@ -1,8 +1,8 @@
 use Rattle.std.proofs.Common.{ap, sym, subst}
 use Rattle.orig_tree.specs.Views.{Labels}
 use Rattle.poptrie_update.specs.Lives.{Living}
-use Rattle.step_model.specs.Rows.{late}
-use Rattle.step_model.specs.Machine.{State, Cancels}
+use Rattle.step_script.specs.Rows.{late}
+use Rattle.step_script.specs.Machine.{State, Cancels}
 use Rattle.paused_routes.specs.Paused.{IsAt}
 use Rattle.paused_routes.proofs.Trie.{is_waiting}
 use Rattle.paused_routes.proofs.Steps.{cancels_at, late_at}

@@ -2,7 +2,7 @@ use Rattle.std.proofs.Common.{Option, sym, ap, ◌∙◌, subst}
 use Rattle.table_model.specs.Address.{Prefix}
 use Rattle.fib_addr.specs.Views.{prefix_as}
 use Rattle.orig_tree.specs.Views.{Labels}
-use Rattle.step_model.specs.Machine.{MayStore}
+use Rattle.step_script.specs.Machine.{MayStore}
 use Rattle.paused_routes.specs.Paused.{stores_in}
 use Rattle.paused_routes.proofs.Trie.{is_waiting}
 use Rattle.paused_routes.proofs.Changes.{may_store}

@@ -1,5 +1,5 @@
 use Rattle.std.proofs.Common.{◌≡◌, ◌∙◌, sym, ap, subst, arith}
-use Rattle.block_pool.specs.Blocks.{Gives}
+use Rattle.buddy_arena.specs.Blocks.{GivesBack}
 use Rattle.poptrie_set.specs.Lives.{Seen, ShowsIn}
 use Rattle.poptrie_set.specs.Fits.{FitsIn}
 use Rattle.poptrie_set.proofs.Steps.{at_its_cancel}
@@ -26,11 +26,11 @@ returns-clause-shows c = λ L M sh.
     let z : c.self.inside.made ≡ 0 = omega arith in
     let is = cancel_is c.self.inside.family c.self.inside.direct_bits c.self.inside.words.items c.self.inside.nodes c.self.inside.leaves c.self.inside.node_blocks c.self.inside.leaf_blocks c.cancel.new.self c.cancel-2.new.self c.self.inside.pending c.self.inside.stores.items c.clear.new.self.items c.self.inside.made c.cancel.new.arena c.cancel-2.new.arena c.cancel.ensures.cancelled c.cancel-2.ensures.cancelled c.clear.ensures.items z ∙ ap (λ (l : Seen). at_its_cancel l c.cancel.new.arena c.cancel-2.new.arena) c.self.view_is in
     subst (λ (l : Seen). ShowsIn l L L) (sym is)
-    (cancel_step c.args.self.now c.cancel.new.arena c.cancel-2.new.arena (subst (λ (l : Seen). l.made ≡ 0) c.self.view_is z) (subst (λ (l : Seen). Gives l.nodes.taken l.nodes.space c.cancel.new.arena) c.self.view_is c.cancel.ensures.gives) (subst (λ (l : Seen). Gives l.leaves.taken l.leaves.space c.cancel-2.new.arena) c.self.view_is c.cancel-2.ensures.gives) L M sh)
+    (cancel_step c.args.self.now c.cancel.new.arena c.cancel-2.new.arena (subst (λ (l : Seen). l.made ≡ 0) c.self.view_is z) (subst (λ (l : Seen). GivesBack l.nodes.taken l.nodes.space c.cancel.new.arena) c.self.view_is c.cancel.ensures.gives) (subst (λ (l : Seen). GivesBack l.leaves.taken l.leaves.space c.cancel-2.new.arena) c.self.view_is c.cancel-2.ensures.gives) L M sh)
 
 pub returns-clause-fits : goal.returns-clause-fits
 returns-clause-fits c = λ os f.
     let z : c.self.inside.made ≡ 0 = omega arith in
     let is = cancel_is c.self.inside.family c.self.inside.direct_bits c.self.inside.words.items c.self.inside.nodes c.self.inside.leaves c.self.inside.node_blocks c.self.inside.leaf_blocks c.cancel.new.self c.cancel-2.new.self c.self.inside.pending c.self.inside.stores.items c.clear.new.self.items c.self.inside.made c.cancel.new.arena c.cancel-2.new.arena c.cancel.ensures.cancelled c.cancel-2.ensures.cancelled c.clear.ensures.items z ∙ ap (λ (l : Seen). at_its_cancel l c.cancel.new.arena c.cancel-2.new.arena) c.self.view_is in
     subst (λ (l : Seen). FitsIn l os) (sym is)
-    (cancel_fits c.args.self.now os f c.cancel.new.arena c.cancel-2.new.arena (subst (λ (l : Seen). l.made ≡ 0) c.self.view_is z) (subst (λ (l : Seen). Gives l.nodes.taken l.nodes.space c.cancel.new.arena) c.self.view_is c.cancel.ensures.gives) (subst (λ (l : Seen). Gives l.leaves.taken l.leaves.space c.cancel-2.new.arena) c.self.view_is c.cancel-2.ensures.gives))
+    (cancel_fits c.args.self.now os f c.cancel.new.arena c.cancel-2.new.arena (subst (λ (l : Seen). l.made ≡ 0) c.self.view_is z) (subst (λ (l : Seen). GivesBack l.nodes.taken l.nodes.space c.cancel.new.arena) c.self.view_is c.cancel.ensures.gives) (subst (λ (l : Seen). GivesBack l.leaves.taken l.leaves.space c.cancel-2.new.arena) c.self.view_is c.cancel-2.ensures.gives))

@@ -1,8 +1,8 @@
 use Rattle.std.proofs.Common.{◌≡◌, ℕ, List, true, false, ◌-◌, sym, ap, ◌∙◌, subst}
 use Rattle.table_model.specs.Width.{width}
-use Rattle.block_pool.specs.Places.{is_out}
-use Rattle.block_pool.specs.Blocks.{blocks_of}
-use Rattle.block_pool.proofs.Parting.{part_right}
+use Rattle.buddy_arena.specs.Places.{is_out}
+use Rattle.buddy_arena.specs.Blocks.{blocks_of}
+use Rattle.buddy_arena.proofs.Parting.{part_right}
 use Rattle.fib_addr.specs.Views.{prefix_as}
 use Rattle.fib_addr.specs.Answers.{all_answers}
 use Rattle.poptrie_build.specs.Tries.{rest}
@@ -12,7 +12,7 @@ use Rattle.poptrie_set.specs.Prepares.{StoresJust, AsksRun, AsksRunOut}
 use Rattle.poptrie_set.proofs.Lived.{seen_as}
 use Rattle.poptrie_set.proofs.Ready.{agree_merged, words_are, Renewed, ready_is, ready_fits, ready_held, ready_asks, ready_shows, ready_some, ready_changes, ready_kept, back_shows, back_fits, back_kept, refused_reason}
 use Rattle.poptrie_set.proofs.Prepared.{quiet_version, quiet_shows}
-use Rattle.poptrie_copy.specs.Words.{IsWord}
+use Rattle.path_copying.specs.Words.{IsWord}
 use Rattle.std.specs.Prelude.{slice_index}
 use Rattle.poptrie_set.specs.Renewals.{MeetsNotRenewal}
 use Rattle.poptrie_set.proofs.trie_set.TrieSet.prepare.Goals as goal
@@ -29,10 +29,10 @@ returns-in-Ok-clause-shows g c =
     let e : g.R.Region.answers c.args.region.now ≡ all_answers c.self.inside.family M = e0 ∙ ap (λ (l : Seen). all_answers l.family M) (sym c.self.view_is) in
     let family : (prefix_as c.args.prefix.now).family ≡ c.self.inside.family = c.requires.family ∙ ap (λ (l : Seen). l.family) (sym c.self.view_is) in
     let agree = agree_merged c.self.inside.family c.self.inside.direct_bits (prefix_as c.args.prefix.now) (g.R.Region.answers c.args.region.now) L M family c.self.invariant.0.few e agree0 in
-    let r = subst (λ (w : List ℕ). Renewed c.self.inside.nodes c.renew_or_undo-made.new.nodes c.self.inside.node_blocks c.renew_or_undo-made.new.node_blocks c.self.inside.leaves c.renew_or_undo-made.new.leaves c.self.inside.leaf_blocks c.renew_or_undo-made.new.leaf_blocks w c.renew_or_undo-made.new.stores.items (prefix_as c.args.prefix.now).bits c.self.inside.direct_bits d (g.R.Region.answers c.args.region.now)) c.deref.ensures.value (record { stores = c.in-Ok.ensures.stores; renews = c.in-Ok.ensures.renews; aside = c.in-Ok.ensures.aside; kept = c.in-Ok.ensures.kept; met = c.in-Ok.ensures.met }) in
-    let is = ready_is c.self.inside.family c.self.inside.direct_bits c.self.inside.words.items c.self.inside.nodes c.renew_or_undo-made.new.nodes c.self.inside.leaves c.renew_or_undo-made.new.leaves c.self.inside.node_blocks c.renew_or_undo-made.new.node_blocks c.self.inside.leaf_blocks c.renew_or_undo-made.new.leaf_blocks c.self.inside.pending c.self.inside.stores.items c.renew_or_undo-made.new.stores.items c.self.inside.made c.in-Ok.ensures.nodes.retired c.in-Ok.ensures.leaves.retired c.in-Ok.ensures.nodes.time q.none_made in
+    let r = subst (λ (w : List ℕ). Renewed c.self.inside.nodes c.rebuild_or_undo-made.new.nodes c.self.inside.node_blocks c.rebuild_or_undo-made.new.node_blocks c.self.inside.leaves c.rebuild_or_undo-made.new.leaves c.self.inside.leaf_blocks c.rebuild_or_undo-made.new.leaf_blocks w c.rebuild_or_undo-made.new.stores.items (prefix_as c.args.prefix.now).bits c.self.inside.direct_bits d (g.R.Region.answers c.args.region.now)) c.deref.ensures.value (record { stores = c.in-Ok.ensures.stores; rebuilds = c.in-Ok.ensures.rebuilds; aside = c.in-Ok.ensures.aside; kept = c.in-Ok.ensures.kept; met = c.in-Ok.ensures.met }) in
+    let is = ready_is c.self.inside.family c.self.inside.direct_bits c.self.inside.words.items c.self.inside.nodes c.rebuild_or_undo-made.new.nodes c.self.inside.leaves c.rebuild_or_undo-made.new.leaves c.self.inside.node_blocks c.rebuild_or_undo-made.new.node_blocks c.self.inside.leaf_blocks c.rebuild_or_undo-made.new.leaf_blocks c.self.inside.pending c.self.inside.stores.items c.rebuild_or_undo-made.new.stores.items c.self.inside.made c.in-Ok.ensures.nodes.retired c.in-Ok.ensures.leaves.retired c.in-Ok.ensures.nodes.time q.none_made in
     subst (λ (l : Seen). ShowsIn l L M) (sym is)
-    (ready_shows c.self.inside.family c.self.inside.direct_bits c.self.inside.words.items c.self.inside.nodes c.renew_or_undo-made.new.nodes c.self.inside.leaves c.renew_or_undo-made.new.leaves c.self.inside.node_blocks c.renew_or_undo-made.new.node_blocks c.self.inside.leaf_blocks c.renew_or_undo-made.new.leaf_blocks c.self.inside.pending c.self.inside.stores.items c.renew_or_undo-made.new.stores.items c.self.inside.made c.in-Ok.ensures.nodes c.in-Ok.ensures.leaves q d ed (g.R.Region.answers c.args.region.now) (prefix_as c.args.prefix.now).bits L M sh agree r.met r.stores r.renews)
+    (ready_shows c.self.inside.family c.self.inside.direct_bits c.self.inside.words.items c.self.inside.nodes c.rebuild_or_undo-made.new.nodes c.self.inside.leaves c.rebuild_or_undo-made.new.leaves c.self.inside.node_blocks c.rebuild_or_undo-made.new.node_blocks c.self.inside.leaf_blocks c.rebuild_or_undo-made.new.leaf_blocks c.self.inside.pending c.self.inside.stores.items c.rebuild_or_undo-made.new.stores.items c.self.inside.made c.in-Ok.ensures.nodes c.in-Ok.ensures.leaves q d ed (g.R.Region.answers c.args.region.now) (prefix_as c.args.prefix.now).bits L M sh agree r.met r.stores r.rebuilds)
 
 pub returns-in-Ok-clause-changes : goal.returns-in-Ok-clause-changes
 returns-in-Ok-clause-changes g c =
@@ -46,9 +46,9 @@ returns-in-Ok-clause-changes g c =
     let e : g.R.Region.answers c.args.region.now ≡ all_answers c.self.inside.family M = e0 ∙ ap (λ (l : Seen). all_answers l.family M) (sym c.self.view_is) in
     let family : (prefix_as c.args.prefix.now).family ≡ c.self.inside.family = c.requires.family ∙ ap (λ (l : Seen). l.family) (sym c.self.view_is) in
     let agree = agree_merged c.self.inside.family c.self.inside.direct_bits (prefix_as c.args.prefix.now) (g.R.Region.answers c.args.region.now) L M family c.self.invariant.0.few e agree0 in
-    let r = subst (λ (w : List ℕ). Renewed c.self.inside.nodes c.renew_or_undo-made.new.nodes c.self.inside.node_blocks c.renew_or_undo-made.new.node_blocks c.self.inside.leaves c.renew_or_undo-made.new.leaves c.self.inside.leaf_blocks c.renew_or_undo-made.new.leaf_blocks w c.renew_or_undo-made.new.stores.items (prefix_as c.args.prefix.now).bits c.self.inside.direct_bits d (g.R.Region.answers c.args.region.now)) c.deref.ensures.value (record { stores = c.in-Ok.ensures.stores; renews = c.in-Ok.ensures.renews; aside = c.in-Ok.ensures.aside; kept = c.in-Ok.ensures.kept; met = c.in-Ok.ensures.met }) in
-    subst (λ (l : Seen). StoresJust l.family l.direct_bits L M (stores_of c.renew_or_undo-made.new.stores.items)) c.self.view_is
-    (ready_changes c.self.inside.family c.self.inside.direct_bits c.self.inside.words.items c.self.inside.nodes c.renew_or_undo-made.new.nodes c.self.inside.leaves c.renew_or_undo-made.new.leaves c.self.inside.node_blocks c.renew_or_undo-made.new.node_blocks c.self.inside.leaf_blocks c.renew_or_undo-made.new.leaf_blocks c.self.inside.pending c.self.inside.stores.items c.renew_or_undo-made.new.stores.items c.self.inside.made c.in-Ok.ensures.nodes c.in-Ok.ensures.leaves q d ed (g.R.Region.answers c.args.region.now) (prefix_as c.args.prefix.now).bits L M sh agree r.met c.self.invariant.0.few r.stores r.renews r.kept)
+    let r = subst (λ (w : List ℕ). Renewed c.self.inside.nodes c.rebuild_or_undo-made.new.nodes c.self.inside.node_blocks c.rebuild_or_undo-made.new.node_blocks c.self.inside.leaves c.rebuild_or_undo-made.new.leaves c.self.inside.leaf_blocks c.rebuild_or_undo-made.new.leaf_blocks w c.rebuild_or_undo-made.new.stores.items (prefix_as c.args.prefix.now).bits c.self.inside.direct_bits d (g.R.Region.answers c.args.region.now)) c.deref.ensures.value (record { stores = c.in-Ok.ensures.stores; rebuilds = c.in-Ok.ensures.rebuilds; aside = c.in-Ok.ensures.aside; kept = c.in-Ok.ensures.kept; met = c.in-Ok.ensures.met }) in
+    subst (λ (l : Seen). StoresJust l.family l.direct_bits L M (stores_of c.rebuild_or_undo-made.new.stores.items)) c.self.view_is
+    (ready_changes c.self.inside.family c.self.inside.direct_bits c.self.inside.words.items c.self.inside.nodes c.rebuild_or_undo-made.new.nodes c.self.inside.leaves c.rebuild_or_undo-made.new.leaves c.self.inside.node_blocks c.rebuild_or_undo-made.new.node_blocks c.self.inside.leaf_blocks c.rebuild_or_undo-made.new.leaf_blocks c.self.inside.pending c.self.inside.stores.items c.rebuild_or_undo-made.new.stores.items c.self.inside.made c.in-Ok.ensures.nodes c.in-Ok.ensures.leaves q d ed (g.R.Region.answers c.args.region.now) (prefix_as c.args.prefix.now).bits L M sh agree r.met c.self.invariant.0.few r.stores r.rebuilds r.kept)
 
 pub returns-in-Ok-clause-asks : goal.returns-in-Ok-clause-asks
 returns-in-Ok-clause-asks g c =
@@ -62,33 +62,33 @@ returns-in-Ok-clause-asks g c =
     let e : g.R.Region.answers c.args.region.now ≡ all_answers c.self.inside.family M = e0 ∙ ap (λ (l : Seen). all_answers l.family M) (sym c.self.view_is) in
     let family : (prefix_as c.args.prefix.now).family ≡ c.self.inside.family = c.requires.family ∙ ap (λ (l : Seen). l.family) (sym c.self.view_is) in
     let agree = agree_merged c.self.inside.family c.self.inside.direct_bits (prefix_as c.args.prefix.now) (g.R.Region.answers c.args.region.now) L M family c.self.invariant.0.few e agree0 in
-    let r = subst (λ (w : List ℕ). Renewed c.self.inside.nodes c.renew_or_undo-made.new.nodes c.self.inside.node_blocks c.renew_or_undo-made.new.node_blocks c.self.inside.leaves c.renew_or_undo-made.new.leaves c.self.inside.leaf_blocks c.renew_or_undo-made.new.leaf_blocks w c.renew_or_undo-made.new.stores.items (prefix_as c.args.prefix.now).bits c.self.inside.direct_bits d (g.R.Region.answers c.args.region.now)) c.deref.ensures.value (record { stores = c.in-Ok.ensures.stores; renews = c.in-Ok.ensures.renews; aside = c.in-Ok.ensures.aside; kept = c.in-Ok.ensures.kept; met = c.in-Ok.ensures.met }) in
-    let is = ready_is c.self.inside.family c.self.inside.direct_bits c.self.inside.words.items c.self.inside.nodes c.renew_or_undo-made.new.nodes c.self.inside.leaves c.renew_or_undo-made.new.leaves c.self.inside.node_blocks c.renew_or_undo-made.new.node_blocks c.self.inside.leaf_blocks c.renew_or_undo-made.new.leaf_blocks c.self.inside.pending c.self.inside.stores.items c.renew_or_undo-made.new.stores.items c.self.inside.made c.in-Ok.ensures.nodes.retired c.in-Ok.ensures.leaves.retired c.in-Ok.ensures.nodes.time q.none_made in
+    let r = subst (λ (w : List ℕ). Renewed c.self.inside.nodes c.rebuild_or_undo-made.new.nodes c.self.inside.node_blocks c.rebuild_or_undo-made.new.node_blocks c.self.inside.leaves c.rebuild_or_undo-made.new.leaves c.self.inside.leaf_blocks c.rebuild_or_undo-made.new.leaf_blocks w c.rebuild_or_undo-made.new.stores.items (prefix_as c.args.prefix.now).bits c.self.inside.direct_bits d (g.R.Region.answers c.args.region.now)) c.deref.ensures.value (record { stores = c.in-Ok.ensures.stores; rebuilds = c.in-Ok.ensures.rebuilds; aside = c.in-Ok.ensures.aside; kept = c.in-Ok.ensures.kept; met = c.in-Ok.ensures.met }) in
+    let is = ready_is c.self.inside.family c.self.inside.direct_bits c.self.inside.words.items c.self.inside.nodes c.rebuild_or_undo-made.new.nodes c.self.inside.leaves c.rebuild_or_undo-made.new.leaves c.self.inside.node_blocks c.rebuild_or_undo-made.new.node_blocks c.self.inside.leaf_blocks c.rebuild_or_undo-made.new.leaf_blocks c.self.inside.pending c.self.inside.stores.items c.rebuild_or_undo-made.new.stores.items c.self.inside.made c.in-Ok.ensures.nodes.retired c.in-Ok.ensures.leaves.retired c.in-Ok.ensures.nodes.time q.none_made in
     subst (λ (l : Seen). AsksRun c.args.self.now l L M) (sym is)
-    (subst (λ (l : Seen). AsksRun l (seen_as c.self.inside.family c.self.inside.direct_bits c.self.inside.words.items c.renew_or_undo-made.new.nodes c.renew_or_undo-made.new.leaves c.renew_or_undo-made.new.node_blocks c.renew_or_undo-made.new.leaf_blocks true c.renew_or_undo-made.new.stores.items c.self.inside.made) L M) c.self.view_is
-    (ready_asks c.self.inside.family c.self.inside.direct_bits c.self.inside.words.items c.self.inside.nodes c.renew_or_undo-made.new.nodes c.self.inside.leaves c.renew_or_undo-made.new.leaves c.self.inside.node_blocks c.renew_or_undo-made.new.node_blocks c.self.inside.leaf_blocks c.renew_or_undo-made.new.leaf_blocks c.self.inside.pending c.self.inside.stores.items c.renew_or_undo-made.new.stores.items c.self.inside.made c.in-Ok.ensures.nodes c.in-Ok.ensures.leaves q d ed (g.R.Region.answers c.args.region.now) (prefix_as c.args.prefix.now).bits L M sh agree r.met))
+    (subst (λ (l : Seen). AsksRun l (seen_as c.self.inside.family c.self.inside.direct_bits c.self.inside.words.items c.rebuild_or_undo-made.new.nodes c.rebuild_or_undo-made.new.leaves c.rebuild_or_undo-made.new.node_blocks c.rebuild_or_undo-made.new.leaf_blocks true c.rebuild_or_undo-made.new.stores.items c.self.inside.made) L M) c.self.view_is
+    (ready_asks c.self.inside.family c.self.inside.direct_bits c.self.inside.words.items c.self.inside.nodes c.rebuild_or_undo-made.new.nodes c.self.inside.leaves c.rebuild_or_undo-made.new.leaves c.self.inside.node_blocks c.rebuild_or_undo-made.new.node_blocks c.self.inside.leaf_blocks c.rebuild_or_undo-made.new.leaf_blocks c.self.inside.pending c.self.inside.stores.items c.rebuild_or_undo-made.new.stores.items c.self.inside.made c.in-Ok.ensures.nodes c.in-Ok.ensures.leaves q d ed (g.R.Region.answers c.args.region.now) (prefix_as c.args.prefix.now).bits L M sh agree r.met))
 
 pub returns-in-Ok-clause-fits : goal.returns-in-Ok-clause-fits
 returns-in-Ok-clause-fits g c =
     λ os fits0.
     let none : c.self.inside.pending ≡ false = subst (λ (l : Seen). l.pending ≡ false) (sym c.self.view_is) c.requires.quiet in
     let q = c.self.invariant.0.quiet none in
-    let is = ready_is c.self.inside.family c.self.inside.direct_bits c.self.inside.words.items c.self.inside.nodes c.renew_or_undo-made.new.nodes c.self.inside.leaves c.renew_or_undo-made.new.leaves c.self.inside.node_blocks c.renew_or_undo-made.new.node_blocks c.self.inside.leaf_blocks c.renew_or_undo-made.new.leaf_blocks c.self.inside.pending c.self.inside.stores.items c.renew_or_undo-made.new.stores.items c.self.inside.made c.in-Ok.ensures.nodes.retired c.in-Ok.ensures.leaves.retired c.in-Ok.ensures.nodes.time q.none_made in
-    subst (λ (l : Seen). FitsIn l os) (sym is) (ready_fits c.self.inside.family c.self.inside.direct_bits c.self.inside.words.items c.self.inside.nodes c.renew_or_undo-made.new.nodes c.self.inside.leaves c.renew_or_undo-made.new.leaves c.self.inside.node_blocks c.renew_or_undo-made.new.node_blocks c.self.inside.leaf_blocks c.renew_or_undo-made.new.leaf_blocks c.self.inside.pending c.self.inside.stores.items c.renew_or_undo-made.new.stores.items c.self.inside.made c.in-Ok.ensures.nodes c.in-Ok.ensures.leaves q os (subst (λ (l : Seen). FitsIn l os) (sym c.self.view_is) fits0))
+    let is = ready_is c.self.inside.family c.self.inside.direct_bits c.self.inside.words.items c.self.inside.nodes c.rebuild_or_undo-made.new.nodes c.self.inside.leaves c.rebuild_or_undo-made.new.leaves c.self.inside.node_blocks c.rebuild_or_undo-made.new.node_blocks c.self.inside.leaf_blocks c.rebuild_or_undo-made.new.leaf_blocks c.self.inside.pending c.self.inside.stores.items c.rebuild_or_undo-made.new.stores.items c.self.inside.made c.in-Ok.ensures.nodes.retired c.in-Ok.ensures.leaves.retired c.in-Ok.ensures.nodes.time q.none_made in
+    subst (λ (l : Seen). FitsIn l os) (sym is) (ready_fits c.self.inside.family c.self.inside.direct_bits c.self.inside.words.items c.self.inside.nodes c.rebuild_or_undo-made.new.nodes c.self.inside.leaves c.rebuild_or_undo-made.new.leaves c.self.inside.node_blocks c.rebuild_or_undo-made.new.node_blocks c.self.inside.leaf_blocks c.rebuild_or_undo-made.new.leaf_blocks c.self.inside.pending c.self.inside.stores.items c.rebuild_or_undo-made.new.stores.items c.self.inside.made c.in-Ok.ensures.nodes c.in-Ok.ensures.leaves q os (subst (λ (l : Seen). FitsIn l os) (sym c.self.view_is) fits0))
 
 pub returns-in-Err-clause-still : goal.returns-in-Err-clause-still
 returns-in-Err-clause-still g c =
     λ L M sh0.
     let none : c.self.inside.pending ≡ false = subst (λ (l : Seen). l.pending ≡ false) (sym c.self.view_is) c.requires.quiet in
     let q = c.self.invariant.0.quiet none in
-    back_shows c.self.inside.family c.self.inside.direct_bits c.self.inside.words.items c.self.inside.nodes c.renew_or_undo-made.new.nodes c.self.inside.leaves c.renew_or_undo-made.new.leaves c.self.inside.node_blocks c.renew_or_undo-made.new.node_blocks c.self.inside.leaf_blocks c.renew_or_undo-made.new.leaf_blocks c.self.inside.pending c.self.inside.stores.items c.renew_or_undo-made.new.stores.items c.self.inside.made c.in-Err.ensures.nodes_back.0 c.in-Err.ensures.leaves_back.0 c.in-Err.ensures.nodes_back.1 c.in-Err.ensures.leaves_back.1 (c.in-Err.ensures.no_stores ∙ sym q.no_stores) L M (subst (λ (l : Seen). ShowsIn l L M) (sym c.self.view_is) sh0)
+    back_shows c.self.inside.family c.self.inside.direct_bits c.self.inside.words.items c.self.inside.nodes c.rebuild_or_undo-made.new.nodes c.self.inside.leaves c.rebuild_or_undo-made.new.leaves c.self.inside.node_blocks c.rebuild_or_undo-made.new.node_blocks c.self.inside.leaf_blocks c.rebuild_or_undo-made.new.leaf_blocks c.self.inside.pending c.self.inside.stores.items c.rebuild_or_undo-made.new.stores.items c.self.inside.made c.in-Err.ensures.nodes_back.0 c.in-Err.ensures.leaves_back.0 c.in-Err.ensures.nodes_back.1 c.in-Err.ensures.leaves_back.1 (c.in-Err.ensures.no_stores ∙ sym q.no_stores) L M (subst (λ (l : Seen). ShowsIn l L M) (sym c.self.view_is) sh0)
 
 pub returns-in-Err-clause-fits : goal.returns-in-Err-clause-fits
 returns-in-Err-clause-fits g c =
     λ os fits0.
     let none : c.self.inside.pending ≡ false = subst (λ (l : Seen). l.pending ≡ false) (sym c.self.view_is) c.requires.quiet in
     let q = c.self.invariant.0.quiet none in
-    back_fits c.self.inside.family c.self.inside.direct_bits c.self.inside.words.items c.self.inside.nodes c.renew_or_undo-made.new.nodes c.self.inside.leaves c.renew_or_undo-made.new.leaves c.self.inside.node_blocks c.renew_or_undo-made.new.node_blocks c.self.inside.leaf_blocks c.renew_or_undo-made.new.leaf_blocks c.self.inside.pending c.self.inside.stores.items c.renew_or_undo-made.new.stores.items c.self.inside.made c.in-Err.ensures.nodes_back.0 c.in-Err.ensures.leaves_back.0 c.in-Err.ensures.nodes_back.1 c.in-Err.ensures.leaves_back.1 (c.in-Err.ensures.no_stores ∙ sym q.no_stores) os (subst (λ (l : Seen). FitsIn l os) (sym c.self.view_is) fits0)
+    back_fits c.self.inside.family c.self.inside.direct_bits c.self.inside.words.items c.self.inside.nodes c.rebuild_or_undo-made.new.nodes c.self.inside.leaves c.rebuild_or_undo-made.new.leaves c.self.inside.node_blocks c.rebuild_or_undo-made.new.node_blocks c.self.inside.leaf_blocks c.rebuild_or_undo-made.new.leaf_blocks c.self.inside.pending c.self.inside.stores.items c.rebuild_or_undo-made.new.stores.items c.self.inside.made c.in-Err.ensures.nodes_back.0 c.in-Err.ensures.leaves_back.0 c.in-Err.ensures.nodes_back.1 c.in-Err.ensures.leaves_back.1 (c.in-Err.ensures.no_stores ∙ sym q.no_stores) os (subst (λ (l : Seen). FitsIn l os) (sym c.self.view_is) fits0)
 
 pub invariant_of-self : goal.invariant_of-self
 invariant_of-self g c =
@@ -97,16 +97,16 @@ invariant_of-self g c =
     let d = g.R.Region.bits c.args.region.now - c.self.inside.direct_bits in
     let wide : g.R.Region.bits c.args.region.now ≡ width c.self.inside.family = c.requires.bits ∙ ap (λ (l : Seen). width l.family) (sym c.self.view_is) in
     let ed : d ≡ rest c.self.inside.family c.self.inside.direct_bits = ap (λ n. n - c.self.inside.direct_bits) wide in
-    let r = subst (λ (w : List ℕ). Renewed c.self.inside.nodes c.renew_or_undo-made.new.nodes c.self.inside.node_blocks c.renew_or_undo-made.new.node_blocks c.self.inside.leaves c.renew_or_undo-made.new.leaves c.self.inside.leaf_blocks c.renew_or_undo-made.new.leaf_blocks w c.renew_or_undo-made.new.stores.items (prefix_as c.args.prefix.now).bits c.self.inside.direct_bits d (g.R.Region.answers c.args.region.now)) c.deref.ensures.value (record { stores = c.in-Ok.ensures.stores; renews = c.in-Ok.ensures.renews; aside = c.in-Ok.ensures.aside; kept = c.in-Ok.ensures.kept; met = c.in-Ok.ensures.met }) in
+    let r = subst (λ (w : List ℕ). Renewed c.self.inside.nodes c.rebuild_or_undo-made.new.nodes c.self.inside.node_blocks c.rebuild_or_undo-made.new.node_blocks c.self.inside.leaves c.rebuild_or_undo-made.new.leaves c.self.inside.leaf_blocks c.rebuild_or_undo-made.new.leaf_blocks w c.rebuild_or_undo-made.new.stores.items (prefix_as c.args.prefix.now).bits c.self.inside.direct_bits d (g.R.Region.answers c.args.region.now)) c.deref.ensures.value (record { stores = c.in-Ok.ensures.stores; rebuilds = c.in-Ok.ensures.rebuilds; aside = c.in-Ok.ensures.aside; kept = c.in-Ok.ensures.kept; met = c.in-Ok.ensures.met }) in
     let some = c.self.invariant.1 in
     let l = seen_as c.self.inside.family c.self.inside.direct_bits c.self.inside.words.items c.self.inside.nodes c.self.inside.leaves c.self.inside.node_blocks c.self.inside.leaf_blocks c.self.inside.pending c.self.inside.stores.items c.self.inside.made in
     let old : ShowsIn l some.before some.before = quiet_shows l some.before some.after some.shows (ap stores_of q.no_stores) q.nodes_taken q.nodes_replaced q.leaves_taken q.leaves_replaced in
-    let is = ready_is c.self.inside.family c.self.inside.direct_bits c.self.inside.words.items c.self.inside.nodes c.renew_or_undo-made.new.nodes c.self.inside.leaves c.renew_or_undo-made.new.leaves c.self.inside.node_blocks c.renew_or_undo-made.new.node_blocks c.self.inside.leaf_blocks c.renew_or_undo-made.new.leaf_blocks c.self.inside.pending c.self.inside.stores.items c.renew_or_undo-made.new.stores.items c.self.inside.made c.in-Ok.ensures.nodes.retired c.in-Ok.ensures.leaves.retired c.in-Ok.ensures.nodes.time q.none_made in (
-      ready_kept c.self.inside.family c.self.inside.direct_bits c.self.inside.words.items c.self.inside.nodes c.renew_or_undo-made.new.nodes c.self.inside.leaves c.renew_or_undo-made.new.leaves c.self.inside.node_blocks c.renew_or_undo-made.new.node_blocks c.self.inside.leaf_blocks c.renew_or_undo-made.new.leaf_blocks c.self.inside.pending c.self.inside.stores.items c.renew_or_undo-made.new.stores.items c.self.inside.made c.in-Ok.ensures.nodes c.in-Ok.ensures.leaves q c.self.invariant.0 r.stores
-          (ready_held c.self.inside.family c.self.inside.direct_bits c.self.inside.words.items c.self.inside.nodes c.renew_or_undo-made.new.nodes c.self.inside.leaves c.renew_or_undo-made.new.leaves c.self.inside.node_blocks c.renew_or_undo-made.new.node_blocks c.self.inside.leaf_blocks c.renew_or_undo-made.new.leaf_blocks c.self.inside.pending c.self.inside.stores.items c.renew_or_undo-made.new.stores.items c.self.inside.made c.in-Ok.ensures.nodes c.in-Ok.ensures.leaves q d ed r.aside some.before some.after some.shows)
+    let is = ready_is c.self.inside.family c.self.inside.direct_bits c.self.inside.words.items c.self.inside.nodes c.rebuild_or_undo-made.new.nodes c.self.inside.leaves c.rebuild_or_undo-made.new.leaves c.self.inside.node_blocks c.rebuild_or_undo-made.new.node_blocks c.self.inside.leaf_blocks c.rebuild_or_undo-made.new.leaf_blocks c.self.inside.pending c.self.inside.stores.items c.rebuild_or_undo-made.new.stores.items c.self.inside.made c.in-Ok.ensures.nodes.retired c.in-Ok.ensures.leaves.retired c.in-Ok.ensures.nodes.time q.none_made in (
+      ready_kept c.self.inside.family c.self.inside.direct_bits c.self.inside.words.items c.self.inside.nodes c.rebuild_or_undo-made.new.nodes c.self.inside.leaves c.rebuild_or_undo-made.new.leaves c.self.inside.node_blocks c.rebuild_or_undo-made.new.node_blocks c.self.inside.leaf_blocks c.rebuild_or_undo-made.new.leaf_blocks c.self.inside.pending c.self.inside.stores.items c.rebuild_or_undo-made.new.stores.items c.self.inside.made c.in-Ok.ensures.nodes c.in-Ok.ensures.leaves q c.self.invariant.0 r.stores
+          (ready_held c.self.inside.family c.self.inside.direct_bits c.self.inside.words.items c.self.inside.nodes c.rebuild_or_undo-made.new.nodes c.self.inside.leaves c.rebuild_or_undo-made.new.leaves c.self.inside.node_blocks c.rebuild_or_undo-made.new.node_blocks c.self.inside.leaf_blocks c.rebuild_or_undo-made.new.leaf_blocks c.self.inside.pending c.self.inside.stores.items c.rebuild_or_undo-made.new.stores.items c.self.inside.made c.in-Ok.ensures.nodes c.in-Ok.ensures.leaves q d ed r.aside some.before some.after some.shows)
           (part_right (is_out c.self.inside.nodes.free) c.self.inside.node_blocks.taken (blocks_of c.self.inside.node_blocks.retired) c.self.invariant.0.nodes_held.with_taken)
           (part_right (is_out c.self.inside.leaves.free) c.self.inside.leaf_blocks.taken (blocks_of c.self.inside.leaf_blocks.retired) c.self.invariant.0.leaves_held.with_taken),
-      subst (λ (m : Seen). ShowsSome m) (sym is) (ready_some c.self.inside.family c.self.inside.direct_bits c.self.inside.words.items c.self.inside.nodes c.renew_or_undo-made.new.nodes c.self.inside.leaves c.renew_or_undo-made.new.leaves c.self.inside.node_blocks c.renew_or_undo-made.new.node_blocks c.self.inside.leaf_blocks c.renew_or_undo-made.new.leaf_blocks c.self.inside.pending c.self.inside.stores.items c.renew_or_undo-made.new.stores.items c.self.inside.made c.in-Ok.ensures.nodes c.in-Ok.ensures.leaves q d ed (g.R.Region.answers c.args.region.now) (prefix_as c.args.prefix.now).bits some.before c.self.invariant.0.few old r.met r.stores r.renews),
+      subst (λ (m : Seen). ShowsSome m) (sym is) (ready_some c.self.inside.family c.self.inside.direct_bits c.self.inside.words.items c.self.inside.nodes c.rebuild_or_undo-made.new.nodes c.self.inside.leaves c.rebuild_or_undo-made.new.leaves c.self.inside.node_blocks c.rebuild_or_undo-made.new.node_blocks c.self.inside.leaf_blocks c.rebuild_or_undo-made.new.leaf_blocks c.self.inside.pending c.self.inside.stores.items c.rebuild_or_undo-made.new.stores.items c.self.inside.made c.in-Ok.ensures.nodes c.in-Ok.ensures.leaves q d ed (g.R.Region.answers c.args.region.now) (prefix_as c.args.prefix.now).bits some.before c.self.invariant.0.few old r.met r.stores r.rebuilds),
     )
 
 pub invariant_of-self-in-Err : goal.invariant_of-self-in-Err
@@ -114,12 +114,12 @@ invariant_of-self-in-Err g c =
     let none : c.self.inside.pending ≡ false = subst (λ (l : Seen). l.pending ≡ false) (sym c.self.view_is) c.requires.quiet in
     let q = c.self.invariant.0.quiet none in
     let some = c.self.invariant.1 in (
-      back_kept c.self.inside.family c.self.inside.direct_bits c.self.inside.words.items c.self.inside.nodes c.renew_or_undo-made.new.nodes c.self.inside.leaves c.renew_or_undo-made.new.leaves c.self.inside.node_blocks c.renew_or_undo-made.new.node_blocks c.self.inside.leaf_blocks c.renew_or_undo-made.new.leaf_blocks c.self.inside.pending c.self.inside.stores.items c.renew_or_undo-made.new.stores.items c.self.inside.made c.in-Err.ensures.nodes_back.0 c.in-Err.ensures.leaves_back.0 c.in-Err.ensures.nodes_back.1 c.in-Err.ensures.leaves_back.1 (c.in-Err.ensures.no_stores ∙ sym q.no_stores) c.self.invariant.0,
-      record { before = some.before; after = some.after; shows = back_shows c.self.inside.family c.self.inside.direct_bits c.self.inside.words.items c.self.inside.nodes c.renew_or_undo-made.new.nodes c.self.inside.leaves c.renew_or_undo-made.new.leaves c.self.inside.node_blocks c.renew_or_undo-made.new.node_blocks c.self.inside.leaf_blocks c.renew_or_undo-made.new.leaf_blocks c.self.inside.pending c.self.inside.stores.items c.renew_or_undo-made.new.stores.items c.self.inside.made c.in-Err.ensures.nodes_back.0 c.in-Err.ensures.leaves_back.0 c.in-Err.ensures.nodes_back.1 c.in-Err.ensures.leaves_back.1 (c.in-Err.ensures.no_stores ∙ sym q.no_stores) some.before some.after some.shows },
+      back_kept c.self.inside.family c.self.inside.direct_bits c.self.inside.words.items c.self.inside.nodes c.rebuild_or_undo-made.new.nodes c.self.inside.leaves c.rebuild_or_undo-made.new.leaves c.self.inside.node_blocks c.rebuild_or_undo-made.new.node_blocks c.self.inside.leaf_blocks c.rebuild_or_undo-made.new.leaf_blocks c.self.inside.pending c.self.inside.stores.items c.rebuild_or_undo-made.new.stores.items c.self.inside.made c.in-Err.ensures.nodes_back.0 c.in-Err.ensures.leaves_back.0 c.in-Err.ensures.nodes_back.1 c.in-Err.ensures.leaves_back.1 (c.in-Err.ensures.no_stores ∙ sym q.no_stores) c.self.invariant.0,
+      record { before = some.before; after = some.after; shows = back_shows c.self.inside.family c.self.inside.direct_bits c.self.inside.words.items c.self.inside.nodes c.rebuild_or_undo-made.new.nodes c.self.inside.leaves c.rebuild_or_undo-made.new.leaves c.self.inside.node_blocks c.rebuild_or_undo-made.new.node_blocks c.self.inside.leaf_blocks c.rebuild_or_undo-made.new.leaf_blocks c.self.inside.pending c.self.inside.stores.items c.rebuild_or_undo-made.new.stores.items c.self.inside.made c.in-Err.ensures.nodes_back.0 c.in-Err.ensures.leaves_back.0 c.in-Err.ensures.nodes_back.1 c.in-Err.ensures.leaves_back.1 (c.in-Err.ensures.no_stores ∙ sym q.no_stores) some.before some.after some.shows },
     )
 
-pub renew_or_undo-made-requires-clause-words : goal.renew_or_undo-made-requires-clause-words
-renew_or_undo-made-requires-clause-words g c =
+pub rebuild_or_undo-made-requires-clause-words : goal.rebuild_or_undo-made-requires-clause-words
+rebuild_or_undo-made-requires-clause-words g c =
     λ v low.
     let none : c.self.inside.pending ≡ false = subst (λ (l : Seen). l.pending ≡ false) (sym c.self.view_is) c.requires.quiet in
     let q = c.self.invariant.0.quiet none in
@@ -146,4 +146,4 @@ returns-in-Err-clause-refused g c =
     let ver = quiet_version (seen_as c.self.inside.family c.self.inside.direct_bits c.self.inside.words.items c.self.inside.nodes c.self.inside.leaves c.self.inside.node_blocks c.self.inside.leaf_blocks c.self.inside.pending c.self.inside.stores.items c.self.inside.made) L L sh.0 sh.1 sh.2 (ap stores_of q.no_stores) q.nodes_taken q.leaves_taken in
     let out = subst (λ (w : List ℕ). MeetsNotRenewal c.self.inside.nodes c.self.inside.leaves w (prefix_as c.args.prefix.now).bits c.self.inside.direct_bits d (g.R.Region.answers c.args.region.now) c.in-Err.refusal) c.deref.ensures.value c.in-Err.ensures.refused in
     subst (λ (l : Seen). AsksRunOut l L M c.reason.result) c.self.view_is
-    (refused_reason c.self.inside.family c.self.inside.direct_bits c.self.inside.words.items c.self.inside.nodes c.self.inside.leaves L M (blocks_of c.self.inside.node_blocks.retired) (blocks_of c.self.inside.leaf_blocks.retired) d c.renew_or_undo-made.new.nodes.order c.renew_or_undo-made.new.leaves.order (g.R.Region.answers c.args.region.now) (prefix_as c.args.prefix.now).bits c.reason.result c.in-Err.refusal ver ed e agree c.in-Err.ensures.nodes_back.0.order c.in-Err.ensures.leaves_back.0.order c.reason.ensures out)
+    (refused_reason c.self.inside.family c.self.inside.direct_bits c.self.inside.words.items c.self.inside.nodes c.self.inside.leaves L M (blocks_of c.self.inside.node_blocks.retired) (blocks_of c.self.inside.leaf_blocks.retired) d c.rebuild_or_undo-made.new.nodes.order c.rebuild_or_undo-made.new.leaves.order (g.R.Region.answers c.args.region.now) (prefix_as c.args.prefix.now).bits c.reason.result c.in-Err.refusal ver ed e agree c.in-Err.ensures.nodes_back.0.order c.in-Err.ensures.leaves_back.0.order c.reason.ensures out)

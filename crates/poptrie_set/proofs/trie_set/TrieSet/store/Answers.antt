@@ -1,7 +1,7 @@
 use Rattle.std.proofs.Common.{rules, ◌≡◌, ◌<◌, ◌≤◌, ◌+◌, suc, true, length, get_or, refl, sym, ap, ◌∙◌, arith, subst}
 use Rattle.poptrie_set.specs.Lives.{Seen, ShowsIn, stores_of}
 use Rattle.poptrie_set.specs.Fits.{FitsIn}
-use Rattle.poptrie_copy.specs.declared.slots.Store.{Store as Stored}
+use Rattle.path_copying.specs.declared.slots.Store.{Store as Stored}
 use Rattle.poptrie_set.proofs.Lived.{length_stores, store_at, store_step, store_keeps, store_keeps_fits, seen_as}
 use Rattle.poptrie_set.proofs.trie_set.TrieSet.store.Goals as goal
 

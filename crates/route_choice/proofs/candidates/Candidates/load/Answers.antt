@@ -3,12 +3,12 @@ use Rattle.fib_prefix.specs.Views.{elem_as}
 use Rattle.route_model.specs.Choice.{after_elem}
 use Rattle.std.specs.Prelude.{option_map}
 use Rattle.std.proofs.lemmas.Result.{err_from_is_err_and}
-use Rattle.route_choice.specs.Held.{Held}
+use Rattle.route_choice.specs.Held.{HeldCandidates}
 use Rattle.route_choice.specs.Space.{planned_elem, over_of}
 use Rattle.route_choice.proofs.Views.{changed}
 use Rattle.route_choice.proofs.Spaces.{space_stays, kept_after}
-use Rattle.flat_base.proofs.Views.{unchanged}
-use Rattle.flat_base.proofs.Parts.{both_same, over_same, apart_same}
+use Rattle.adj_rib_in.proofs.Views.{unchanged}
+use Rattle.adj_rib_in.proofs.Parts.{both_same, over_same, apart_same}
 use Rattle.route_choice.proofs.candidates.Candidates.load.Goals as goal
 
 pub invariant_of-self : goal.invariant_of-self
@@ -17,15 +17,15 @@ invariant_of-self c = (c.load_elem.ensures.flat, c.load_elem.ensures.apart, c.in
 pub returns-in_err-load_elem-clause-err : goal.returns-in_err-load_elem-clause-err
 returns-in_err-load_elem-clause-err c =
     let p = err_from_is_err_and c.from_residual.result c.from_residual.ensures.1 in
-    rw p.1 (ap (λ held. let h : Held = record { candidates = held; room = option_map planned_elem c.self.inside.room } in h) (unchanged _ _ (both_same _ _ _ _ c.in_err-load_elem.ensures.err_base c.in_err-load_elem.ensures.err_offers)) ∙ c.self.view_is)
+    rw p.1 (ap (λ held. let h : HeldCandidates = record { candidates = held; room = option_map planned_elem c.self.inside.room } in h) (unchanged _ _ (both_same _ _ _ _ c.in_err-load_elem.ensures.err_base c.in_err-load_elem.ensures.err_offers)) ∙ c.self.view_is)
 
 pub returns-clause-candidates : goal.returns-clause-candidates
-returns-clause-candidates c = unchanged _ _ (over_same _ _ _ c.give_back.ensures.offers) ∙ (changed _ _ c.args.elem.now c.in_ok-load_elem.ensures.ok ∙ ap (λ (h : Held). after_elem h.candidates (elem_as c.args.elem.now)) c.self.view_is)
+returns-clause-candidates c = unchanged _ _ (over_same _ _ _ c.give_back.ensures.offers) ∙ (changed _ _ c.args.elem.now c.in_ok-load_elem.ensures.ok ∙ ap (λ (h : HeldCandidates). after_elem h.candidates (elem_as c.args.elem.now)) c.self.view_is)
 
 pub invariant_of-self-2 : goal.invariant_of-self-2
 invariant_of-self-2 c = (
   c.load_elem.ensures.flat,
-  apart_same _ c.load_elem.new.seats.entries _ c.give_back.ensures.offers c.load_elem.ensures.apart,
-  kept_after c.self.inside.seats.entries c.load_elem.new.seats.entries c.give_back.new.seats.entries c.self.inside.ranks.keys c.load_elem.new.ranks.keys c.give_back.new.ranks.keys c.self.inside.room c.over_of-earlier.result None None c.self.invariant.2 c.in_ok-load_elem.ensures.kept c.over_of-earlier.ensures refl c.give_back.ensures.kept,
+  apart_same _ c.load_elem.new.paths.entries _ c.give_back.ensures.offers c.load_elem.ensures.apart,
+  kept_after c.self.inside.paths.entries c.load_elem.new.paths.entries c.give_back.new.paths.entries c.self.inside.ranks.keys c.load_elem.new.ranks.keys c.give_back.new.ranks.keys c.self.inside.room c.over_of-earlier.result None None c.self.invariant.2 c.in_ok-load_elem.ensures.kept c.over_of-earlier.ensures refl c.give_back.ensures.kept,
   tt,
 )

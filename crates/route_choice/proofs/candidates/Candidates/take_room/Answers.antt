@@ -1,31 +1,31 @@
 use Rattle.std.proofs.Common.{ap, ◌∙◌, Some}
 use Rattle.std.specs.Prelude.{option_map}
 use Rattle.std.proofs.lemmas.Result.{err_from_is_err_and}
-use Rattle.route_choice.specs.Held.{Held}
+use Rattle.route_choice.specs.Held.{HeldCandidates}
 use Rattle.route_choice.specs.Space.{planned_elem, over_of}
 use Rattle.route_choice.proofs.Spaces.{space_stays, apart_both, kept_after}
-use Rattle.flat_base.proofs.Views.{unchanged}
-use Rattle.flat_base.proofs.Parts.{both_same, over_same, apart_same}
+use Rattle.adj_rib_in.proofs.Views.{unchanged}
+use Rattle.adj_rib_in.proofs.Parts.{both_same, over_same, apart_same}
 use Rattle.route_choice.proofs.candidates.Candidates.take_room.Goals as goal
 
 pub invariant_of-self : goal.invariant_of-self
-invariant_of-self c = (c.make_space.ensures.flat, apart_both _ _ c.self.inside.seats.entries _ c.make_space.ensures.base c.make_space.ensures.offers c.self.invariant.1, c.in_err-make_space.ensures.err (over_of c.self.inside.room) c.self.invariant.2, space_stays c.self.inside.flat c.make_space.new.flat c.self.inside.room c.make_space.ensures.base c.make_space.ensures.grows c.self.invariant.3)
+invariant_of-self c = (c.make_space.ensures.flat, apart_both _ _ c.self.inside.paths.entries _ c.make_space.ensures.base c.make_space.ensures.offers c.self.invariant.1, c.in_err-make_space.ensures.err (over_of c.self.inside.room) c.self.invariant.2, space_stays c.self.inside.flat c.make_space.new.flat c.self.inside.room c.make_space.ensures.base c.make_space.ensures.grows c.self.invariant.3)
 
 pub returns-in_err-make_space-clause-candidates : goal.returns-in_err-make_space-clause-candidates
-returns-in_err-make_space-clause-candidates c = unchanged _ _ (both_same _ _ _ _ c.make_space.ensures.base c.make_space.ensures.offers) ∙ ap (λ (h : Held). h.candidates) c.self.view_is
+returns-in_err-make_space-clause-candidates c = unchanged _ _ (both_same _ _ _ _ c.make_space.ensures.base c.make_space.ensures.offers) ∙ ap (λ (h : HeldCandidates). h.candidates) c.self.view_is
 
 pub returns-in_err-make_space-clause-err : goal.returns-in_err-make_space-clause-err
 returns-in_err-make_space-clause-err c =
     let p = err_from_is_err_and c.from_residual.result c.from_residual.ensures.1 in
-    rw p.1 (ap (λ held. let h : Held = record { candidates = held; room = option_map planned_elem c.self.inside.room } in h) (unchanged _ _ (both_same _ _ _ _ c.make_space.ensures.base c.make_space.ensures.offers)) ∙ c.self.view_is)
+    rw p.1 (ap (λ held. let h : HeldCandidates = record { candidates = held; room = option_map planned_elem c.self.inside.room } in h) (unchanged _ _ (both_same _ _ _ _ c.make_space.ensures.base c.make_space.ensures.offers)) ∙ c.self.view_is)
 
 pub invariant_of-self-2 : goal.invariant_of-self-2
 invariant_of-self-2 c = (
   c.make_space.ensures.flat,
-  apart_same _ c.make_space.new.seats.entries _ c.give_back.ensures.offers (apart_both _ _ c.self.inside.seats.entries _ c.make_space.ensures.base c.make_space.ensures.offers c.self.invariant.1),
-  kept_after c.self.inside.seats.entries c.make_space.new.seats.entries c.give_back.new.seats.entries c.self.inside.ranks.keys c.make_space.new.ranks.keys c.give_back.new.ranks.keys c.self.inside.room c.over_of-earlier.result c.over_of.result (over_of (Some c.plan_of-plan.result)) c.self.invariant.2 c.in_ok-make_space.ensures.kept c.over_of-earlier.ensures c.over_of.ensures c.give_back.ensures.kept,
+  apart_same _ c.make_space.new.paths.entries _ c.give_back.ensures.offers (apart_both _ _ c.self.inside.paths.entries _ c.make_space.ensures.base c.make_space.ensures.offers c.self.invariant.1),
+  kept_after c.self.inside.paths.entries c.make_space.new.paths.entries c.give_back.new.paths.entries c.self.inside.ranks.keys c.make_space.new.ranks.keys c.give_back.new.ranks.keys c.self.inside.room c.over_of-earlier.result c.over_of.result (over_of (Some c.plan_of-plan.result)) c.self.invariant.2 c.in_ok-make_space.ensures.kept c.over_of-earlier.ensures c.over_of.ensures c.give_back.ensures.kept,
   c.in_ok-make_space.ensures.space,
 )
 
 pub returns-clause-candidates : goal.returns-clause-candidates
-returns-clause-candidates c = unchanged _ _ (over_same _ _ _ c.give_back.ensures.offers) ∙ (unchanged _ _ (both_same _ _ _ _ c.make_space.ensures.base c.make_space.ensures.offers) ∙ ap (λ (h : Held). h.candidates) c.self.view_is)
+returns-clause-candidates c = unchanged _ _ (over_same _ _ _ c.give_back.ensures.offers) ∙ (unchanged _ _ (both_same _ _ _ _ c.make_space.ensures.base c.make_space.ensures.offers) ∙ ap (λ (h : HeldCandidates). h.candidates) c.self.view_is)

@@ -10,7 +10,7 @@ use Rattle.smalta_keep.specs.Views.{repair_as, snapshot_as}
 use Rattle.table_model.specs.declared.family.Family.{Family}
 use Rattle.fib_addr.specs.Views.{prefix_as}
 use Rattle.smalta_keep.specs.Known.{AreLeft}
-use Rattle.smalta_keep.specs.Plans.{IsPlanned}
+use Rattle.smalta_keep.specs.Plans.{IsRepairPlanned}
 use Rattle.kept_model.specs.Patched.{after_snapshot}
 use Rattle.smalta_keep.proofs.Tables.{some_is}
 use Rattle.smalta_keep.proofs.Knowing.{known_made, reach_family}
@@ -61,19 +61,19 @@ invariant_of-self c =
     let N = c.apply_all.new.tree.entries in
     let due = c.args.repair.due in
     let m = c.args.repair.moved in
-    let q : IsPlanned k c.args.repair = subst (λ (j : Labels). IsPlanned j c.args.repair) (sym c.self.view_is) c.requires in
+    let q : IsRepairPlanned k c.args.repair = subst (λ (j : Labels). IsRepairPlanned j c.args.repair) (sym c.self.view_is) c.requires in
     let went : after_changes (repair_as m) k.entries ≡ Some N = ap (λ (cs : List code.Change). after_changes (map change_as cs) k.entries) (sym c.deref.ensures.value) ∙ c.apply_all.ensures.entries in
     let made : after_changes (repair_as m ++ snapshot_as m) k.entries ≡ Some l.entries =
     second_run (repair_as m) (snapshot_as m) k.entries N (ap is_some q.makes) went
     ∙ (ap (λ (cs : List code.Change). after_changes (map change_as cs) N) (sym c.deref-2.ensures.value) ∙ (c.apply_all-2.ensures.entries ∙ ap Some (sym (c.trim_left-2.ensures.entries ∙ (c.trim_left.ensures.entries ∙ c.trim_last.ensures.entries)))))
     in
-    known_made due c.args.repair.fewest (option_map prefix_as c.args.repair.reach) k l q.repaired c.self.inside.marks.tree c.leave.new.self.tree
-    (subst (λ (f : Family). AreLeft due c.args.repair.fewest f (option_map prefix_as c.args.repair.reach) c.self.inside.marks.tree c.leave.new.self.tree) c.family-family.ensures.family c.leave.ensures)
+    known_made due c.args.repair.fewest (option_map prefix_as c.args.repair.reach) k l q.repaired c.self.inside.dirty.tree c.leave.new.self.tree
+    (subst (λ (f : Family). AreLeft due c.args.repair.fewest f (option_map prefix_as c.args.repair.reach) c.self.inside.dirty.tree c.leave.new.self.tree) c.family-family.ensures.family c.leave.ensures)
     c.self.invariant (c.trim_left-2.ensures.family ∙ (c.trim_left.ensures.family ∙ (c.trim_last.ensures.family ∙ (c.apply_all-2.ensures.keeps.family ∙ c.apply_all.ensures.keeps.family))))
     (c.trim_left-2.ensures.routes ∙ (c.trim_left.ensures.routes ∙ (c.trim_last.ensures.routes ∙ (c.apply_all-2.ensures.keeps.routes ∙ c.apply_all.ensures.keeps.routes)))) q.beside q.settled (some_is l.entries (after_snapshot k.family k.routes due q.repaired) (sym made ∙ q.makes))
 
 pub leave-requires : goal.leave-requires
 leave-requires c =
     let k = c.self.inside.tree in
-    let q : IsPlanned k c.args.repair = subst (λ (j : Labels). IsPlanned j c.args.repair) (sym c.self.view_is) c.requires in
-    reach_family c.args.repair.reach None k c.self.inside.marks.tree q.reach_of c.self.invariant
+    let q : IsRepairPlanned k c.args.repair = subst (λ (j : Labels). IsRepairPlanned j c.args.repair) (sym c.self.view_is) c.requires in
+    reach_family c.args.repair.reach None k c.self.inside.dirty.tree q.reach_of c.self.invariant

@@ -10,8 +10,8 @@ invariant_of-self c =
     let m = c.plan_moves.ensures.keeps in
     let at = place_in c.args.route in
     let t = c.expect.new.self.tree in
-    let v = c.plan_moves.new.marks.tree in
-    known_planned c.args.route k l v c.family-family.ensures.order.0 (known_wide at k t v c.in-Ok.ensures.marked (known_more k c.self.inside.marks.tree t c.expect.ensures c.self.invariant)) m.family c.in-Ok.ensures.set.routes m.entries
+    let v = c.plan_moves.new.dirty.tree in
+    known_planned c.args.route k l v c.family-family.ensures.order.0 (known_wide at k t v c.in-Ok.ensures.marked (known_more k c.self.inside.dirty.tree t c.expect.ensures c.self.invariant)) m.family c.in-Ok.ensures.set.routes m.entries
 
 pub returns-in-Ok-clause-planned : goal.returns-in-Ok-clause-planned
 returns-in-Ok-clause-planned c = planned c.plan_moves.new.tree c.args.fewest (place_in c.args.route) c.args.snapshot c.in-Ok.repair c.in-Ok.ensures.moved c.in-Ok.ensures.set.held

@@ -7,7 +7,7 @@ pub invariant_of-self-then-eq : goal.invariant_of-self-then-eq
 invariant_of-self-then-eq c =
     let k = c.self.inside.tree in
     let u = c.mark.new.self.tree in
-    let marked = known_touched (prefix_as c.args.prefix.now) k c.self.inside.marks.tree u c.in_ok-mark.ensures.marked c.self.invariant in
+    let marked = known_touched (prefix_as c.args.prefix.now) k c.self.inside.dirty.tree u c.in_ok-mark.ensures.marked c.self.invariant in
     known_planned (Some (c.args.prefix.now, c.args.hop)) k c.trim.new.self u c.family-family.ensures.order.0 marked (c.trim.ensures.family ∙ c.set.ensures.keeps.family)
     (c.trim.ensures.routes ∙ c.in_ok-set.ensures.routes) (c.trim.ensures.entries ∙ c.set.ensures.keeps.entries)
 
@@ -15,5 +15,5 @@ pub invariant_of-self-else-eq : goal.invariant_of-self-else-eq
 invariant_of-self-else-eq c =
     let k = c.self.inside.tree in
     let u = c.mark.new.self.tree in
-    let marked = known_touched (prefix_as c.args.prefix.now) k c.self.inside.marks.tree u c.in_ok-mark.ensures.marked c.self.invariant in
+    let marked = known_touched (prefix_as c.args.prefix.now) k c.self.inside.dirty.tree u c.in_ok-mark.ensures.marked c.self.invariant in
     known_planned (Some (c.args.prefix.now, c.args.hop)) k c.set.new.tree u c.family-family.ensures.order.0 marked c.set.ensures.keeps.family c.in_ok-set.ensures.routes c.set.ensures.keeps.entries

@@ -1,6 +1,6 @@
 use Rattle.std.proofs.Common.{refl, sym, ap, ◌∙◌, Option, Some}
-use Rattle.step_model.specs.Script.{cancels}
-use Rattle.step_model.specs.Rows.{cancelled}
+use Rattle.step_script.specs.Script.{cancels}
+use Rattle.step_script.specs.Rows.{cancelled}
 use Rattle.stepper.specs.declared.begun.Begun.{Begun}
 use Rattle.stepper.specs.declared.begun.Begun.TheVariants as begun
 use Rattle.stepper.proofs.Assembled.{with_begun, leads_as, begun_at}

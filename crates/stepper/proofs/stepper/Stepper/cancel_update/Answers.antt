@@ -1,5 +1,5 @@
 use Rattle.table_model.specs.declared.family.Family.TheVariants.{V4, V6}
-use Rattle.step_model.specs.Script.{cancels}
+use Rattle.step_script.specs.Script.{cancels}
 use Rattle.stepper.proofs.Assembled.{leads_as, update_as}
 use Rattle.stepper.proofs.Events.{cancel_update as update_over}
 use Rattle.stepper.proofs.stepper.Stepper.cancel_update.Goals as goal

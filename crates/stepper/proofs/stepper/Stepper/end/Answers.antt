@@ -1,6 +1,6 @@
 use Rattle.std.proofs.Common.{◌≡◌, ℕ, suc, ◌+◌, arith, refl, sym, ap, ◌∙◌, Option, Some, None}
-use Rattle.step_model.specs.Script.{ends}
-use Rattle.step_model.specs.Rows.{ended}
+use Rattle.step_script.specs.Script.{ends}
+use Rattle.step_script.specs.Rows.{ended}
 use Rattle.stepper.specs.declared.begun.Begun.{Begun}
 use Rattle.stepper.specs.declared.begun.Begun.TheVariants as begun
 use Rattle.stepper.specs.declared.stepper.Stepper.{Stepper}

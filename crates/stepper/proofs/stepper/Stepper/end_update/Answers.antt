@@ -1,5 +1,5 @@
 use Rattle.table_model.specs.declared.family.Family.TheVariants.{V4, V6}
-use Rattle.step_model.specs.Script.{ends}
+use Rattle.step_script.specs.Script.{ends}
 use Rattle.stepper.specs.declared.begun.Begun.TheVariants as begun
 use Rattle.stepper.proofs.Assembled.{leads_as, update_as}
 use Rattle.stepper.proofs.Preparing.{early_begun}

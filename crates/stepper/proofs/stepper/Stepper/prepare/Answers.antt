@@ -1,6 +1,6 @@
 use Rattle.std.proofs.Common.{refl, sym, ap, ◌∙◌, Option, Some, None}
-use Rattle.step_model.specs.Script.{prepares}
-use Rattle.step_model.specs.Rows.{prepared}
+use Rattle.step_script.specs.Script.{prepares}
+use Rattle.step_script.specs.Rows.{prepared}
 use Rattle.stepper.specs.declared.begun.Begun.{Begun}
 use Rattle.stepper.proofs.Assembled.{with_begun, leads_as}
 use Rattle.stepper.proofs.Preparing.{turn_there, one_left, none_of, begun_nothing}

@@ -1,5 +1,5 @@
 use Rattle.step_script.specs.Steps.{step_as}
-use Rattle.step_script.specs.RowViews.{row_as}
+use Rattle.step_script.specs.RowViews.{step_row_as}
 use Rattle.stepper.specs.declared.error.StepError.TheVariants as error
 use Rattle.stepper.proofs.Running.{printed_at, going_first, going_on, went, stopped, no_memory, err_is}
 use Rattle.stepper.proofs.stepper.Stepper.run.Goals as goal
@@ -22,7 +22,7 @@ returns-in_err-row-clause-stops c =
 
 pub returns-in_err-push-clause-stops : goal.returns-in_err-push-clause-stops
 returns-in_err-push-clause-stops c =
-    err_is c.from_residual-in_err-push.result error.NoMemory _ c.from_residual-in_err-push.ensures.1 (no_memory c.args.self.now c.loop-step.self c.step.new.self c.args.script.now c.loop-step.step-index c.loop-step.rows.items (step_as c.step-item.result) (row_as c.in_ok-row.row) c.in_ok-row.ensures.takes c.loop-step.invariant)
+    err_is c.from_residual-in_err-push.result error.NoMemory _ c.from_residual-in_err-push.ensures.1 (no_memory c.args.self.now c.loop-step.self c.step.new.self c.args.script.now c.loop-step.step-index c.loop-step.rows.items (step_as c.step-item.result) (step_row_as c.in_ok-row.row) c.in_ok-row.ensures.takes c.loop-step.invariant)
 
 pub loop-step-preserved : goal.loop-step-preserved
 loop-step-preserved c = going_on c.args.self.now c.loop-step.self c.step.new.self c.args.script.now c.loop-step.step-index c.loop-step.rows.items c.push.new.self.items c.step-item.result c.in_ok-row.row c.loop-step-test.true c.step-item.is c.in_ok-push.ensures.items c.in_ok-row.ensures.takes c.loop-step.invariant

@@ -1,7 +1,7 @@
 use Rattle.std.proofs.Common.{ap, ◌∙◌, Some}
 use Rattle.table_model.specs.declared.family.Family.{Family}
 use Rattle.table_model.specs.declared.family.Family.TheVariants.{V4, V6}
-use Rattle.step_model.specs.Script.{stores}
+use Rattle.step_script.specs.Script.{stores}
 use Rattle.stepper.specs.declared.begun.Begun.{Begun}
 use Rattle.stepper.specs.declared.begun.Begun.TheVariants as begun
 use Rattle.stepper.proofs.Assembled.{with_half, leads_as, begun_at}

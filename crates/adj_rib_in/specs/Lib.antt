@@ -1,0 +1,10 @@
+pub mod Keys
+pub mod Rows
+pub mod Slots
+pub mod RowLists
+pub mod Orders
+pub mod Paths
+pub mod Flat
+pub mod Chains
+pub mod Bests
+pub mod Ways

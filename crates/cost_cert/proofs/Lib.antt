@@ -1,4 +1,0 @@
-pub mod Cutting
-pub mod Taking
-pub mod Lines
-pub mod Feeds

@@ -1,7 +1,0 @@
-use Rattle.std.proofs.Common.{[], subst}
-use Rattle.std.specs.Prelude.{◌≡◌, ◌↔◌, IsTrue}
-use Rattle.cost_cert.proofs.Cutting.{none_left}
-use Rattle.cost_cert.proofs.fields.Fields.is_empty.Goals as goal
-
-pub returns : goal.returns
-returns c = subst (λ fields. IsTrue c.is_none.result ↔ (fields ≡ [])) c.self.view_is (none_left c.self.inside.mark c.self.inside.left c.is_none.result c.is_none.ensures)

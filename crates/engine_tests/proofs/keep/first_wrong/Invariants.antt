@@ -1,6 +1,0 @@
-use Rattle.std.proofs.Common.{◌≡◌}
-use Rattle.table_model.specs.declared.family.Family.TheVariants.{V4}
-use Rattle.engine_tests.proofs.keep.first_wrong.Given as goal
-
-abbrev pub invariant-loop-place : goal.invariant-loop-place
-invariant-loop-place l = l.keep.family ≡ V4

@@ -1,4 +1,0 @@
-pub mod Settled
-pub mod Finding
-pub mod Prefix
-pub mod Routed

@@ -1,8 +1,0 @@
-use Rattle.std.proofs.Common.{◌+◌, ◌*◌}
-use Rattle.event_moves.proofs.down.+list_differing.Given as goal
-
-abbrev pub decreases-list_half : goal.decreases-list_half
-decreases-list_half l = 2 * l.place.now.region.bits + 1
-
-abbrev pub decreases-list_differing : goal.decreases-list_differing
-decreases-list_differing l = 2 * l.place.now.region.bits

@@ -1,9 +1,0 @@
-use Rattle.std.proofs.Common.{refl}
-use Rattle.fib_addr.specs.Views.{prefix_as}
-use Rattle.event_moves.proofs.Settled.{settled_listed}
-use Rattle.event_moves.proofs.down.list_settled.Goals as goal
-
-pub returns : goal.returns
-returns c =
-    settled_listed c.args.region.now c.args.inherited.had c.args.inherited.gets c.requires.table c.requires.right (prefix_as c.args.prefix) c.settled_hop.result c.args.out.now
-    (record { had = c.args.out.now.had; gets = c.push_entry.new.out }) c.settled_hop.ensures refl c.in_ok-push_entry.ensures

@@ -1,7 +1,0 @@
-use Rattle.std.proofs.Common.{sym, subst}
-use Rattle.flat_base.specs.Flat.{AreFlat}
-use Rattle.flat_base.proofs.Flats.{ends_more}
-use Rattle.flat_base.proofs.flat.Flat.add_end.Goals as goal
-
-pub returns-in_ok-push-clause-flat : goal.returns-in_ok-push-clause-flat
-returns-in_ok-push-clause-flat c = let o = c.args.self.now in subst (AreFlat o.rows.items o.rows.slots o.peers.keys o.hops.keys) (sym c.in_ok-push.ensures.items) (ends_more o.rows.items o.rows.slots o.peers.keys o.hops.keys o.ends.items c.requires)

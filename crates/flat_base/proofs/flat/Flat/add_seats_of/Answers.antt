@@ -1,5 +1,0 @@
-use Rattle.flat_base.proofs.Sessions.{no_walk}
-use Rattle.flat_base.proofs.flat.Flat.add_seats_of.Goals as goal
-
-pub returns-in-None : goal.returns-in-None
-returns-in-None c = no_walk c.args.self.now c.args.peer.now _ c.in-None.ensures

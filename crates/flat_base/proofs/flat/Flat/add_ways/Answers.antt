@@ -1,5 +1,0 @@
-use Rattle.flat_base.proofs.Gathers.{no_ways}
-use Rattle.flat_base.proofs.flat.Flat.add_ways.Goals as goal
-
-pub returns-in-None : goal.returns-in-None
-returns-in-None c = no_ways c.args.self.now c.args.prefix.now c.args.ways.now c.in-None.ensures

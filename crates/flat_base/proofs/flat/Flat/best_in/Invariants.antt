@@ -1,5 +1,0 @@
-use Rattle.flat_base.proofs.BestSlots.{Keeps}
-use Rattle.flat_base.proofs.flat.Flat.best_in.Given as goal
-
-abbrev pub invariant-loop-i : goal.invariant-loop-i
-invariant-loop-i l = Keeps l.fn.self l.fn.prefix l.fn.row l.fn.but l.fn.other l.i l.best

@@ -1,5 +1,0 @@
-use Rattle.flat_base.proofs.Betters.{best_none}
-use Rattle.flat_base.proofs.flat.Flat.best_near.Goals as goal
-
-pub returns-in-None : goal.returns-in-None
-returns-in-None c = best_none c.args.self.now c.args.prefix.now c.args.but c.args.other c.in-None.ensures

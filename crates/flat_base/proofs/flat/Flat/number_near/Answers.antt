@@ -1,6 +1,0 @@
-use Rattle.std.proofs.Common.{sym}
-use Rattle.flat_base.proofs.Flats.{near_number}
-use Rattle.flat_base.proofs.flat.Flat.number_near.Goals as goal
-
-pub returns : goal.returns
-returns c = near_number c.args.peer.now c.in_ok-near.near.now c.args.self.now.peers.keys c.in_ok-next.next.peer (sym c.in_ok-near.ensures.key) c.if-ne.ensures

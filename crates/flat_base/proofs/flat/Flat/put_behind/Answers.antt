@@ -1,6 +1,0 @@
-use Rattle.flat_base.specs.Flat.{IsLastRow}
-use Rattle.flat_base.proofs.Flats.{if_some}
-use Rattle.flat_base.proofs.flat.Flat.put_behind.Goals as goal
-
-pub put_last-requires-clause-row : goal.put_last-requires-clause-row
-put_last-requires-clause-row c = (c.args.prefix.now, if_some (IsLastRow c.row_behind.new.self.rows.items c.args.prefix.now) c.in_ok-row.field-0 c.in-Some.row c.in-Some.is c.in_ok-row.ensures.row)

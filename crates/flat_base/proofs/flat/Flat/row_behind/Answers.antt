@@ -1,4 +1,0 @@
-use Rattle.flat_base.proofs.flat.Flat.row_behind.Goals as goal
-
-pub open_row-requires : goal.open_row-requires
-open_row-requires c = c.order_last.ensures.equal c.in-Equal.is

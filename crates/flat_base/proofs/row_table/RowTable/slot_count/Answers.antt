@@ -1,7 +1,0 @@
-use Rattle.std.proofs.Common.{◌≡◌, length, ap, ◌∙◌, rules}
-use Rattle.flat_base.specs.Slots.{RowsAndSlots}
-use Rattle.flat_base.proofs.Runs.{count_of}
-use Rattle.flat_base.proofs.row_table.RowTable.slot_count.Goals as goal
-
-pub returns : goal.returns
-returns c = let n : c.len.result ≡ length c.self.inside.slots.items = search rules in n ∙ count_of c.self.inside.rows.items c.self.inside.slots.items c.args.self.now.slots (ap (λ (t : RowsAndSlots). t.slots) c.self.view_is)

@@ -1,4 +1,0 @@
-pub mod Seeking
-pub mod Passing
-pub mod Apart
-pub mod Within

@@ -1,4 +1,0 @@
-pub mod Demands
-pub mod Shortest
-pub mod Rows
-pub mod Verdict

@@ -1,5 +1,0 @@
-use Rattle.moves_event.proofs.Within.{covers_all, covers_not}
-use Rattle.moves_event.proofs.fills_law.Goals as goal
-
-pub returns : goal.returns
-returns c = record { all = covers_all; some = covers_not }

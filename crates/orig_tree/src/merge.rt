@@ -1,0 +1,152 @@
+//! Many entries set in one walk: as long as the next one is within the region at hand, the walk goes on from there.
+
+ghost use Rattle.std.specs.Prelude.{◌≡◌, ◌≤◌, ◌<◌, ◌-◌, ℕ, List, Bool, true, IfOk, OnOk, IfSome, IfNone, false, map, vec_len};
+ghost use Rattle.table_model.specs.Halves.{half_at};
+ghost use Rattle.table_model.specs.Width.{width};
+ghost use Rattle.fib_addr.specs.Views.{entry_as, prefix_as};
+ghost use Rattle.orig_tree.specs.Arena.{cells_of, Owner, IsTree, HasSpares};
+ghost use Rattle.orig_tree.specs.Bests.{best_in};
+ghost use Rattle.orig_tree.specs.Merged.{starts_within, IsHalfMade, Merges};
+ghost use Rattle.orig_tree.specs.declared.best.Best.{Best as best_view};
+
+use crate::best::{Best, Bests, exchange};
+use crate::node::{Label, Nodes, climb, read, reserve, split, update_node};
+use fib_addr::{Entry, Prefix, bit_at};
+use std::alloc::AllocError;
+
+/// The half of the prefix that the first entry's prefix is within, if it is in one.
+pub(crate) fn next_half(entries: &[Entry], at: &Prefix) -> Option<bool>
+    requires { at.now.len < width at.now.family }
+    ensures some { IfSome result (λ b. starts_within (half_at b (prefix_as at.now))
+        (map entry_as entries.now) ≡ true) }
+    ensures none { IfNone result ((b : Bool) → starts_within (half_at b (prefix_as at.now))
+        (map entry_as entries.now) ≡ false) }
+{
+    let [first, ..] = entries else {
+        return None;
+    };
+    if first.prefix.len <= at.len {
+        return None;
+    }
+    if !first.prefix.is_within(at) {
+        return None;
+    }
+    Some(bit_at(first.prefix.bits, at.family.width() - at.len - 1))
+}
+
+/// Sets a label of a node, which stands for the prefix, where the first entry is at that prefix, and takes that entry.
+fn merge_own(nodes: &mut Nodes, i: usize, at: &Prefix, label: Label, entries: &mut &[Entry])
+    ensures len { vec_len nodes.new.halves ≡ vec_len nodes.old.halves }
+    ensures merged { (h levels : ℕ) (kept : ℕ → best_view) → Merges label h levels (prefix_as at.now)
+        (cells_of nodes.old) (cells_of nodes.new) nodes.old.free nodes.new.free kept kept i
+        (map entry_as entries.old.now) (map entry_as entries.new.now) }
+{
+    match *entries {
+        [first, rest @ ..] if first.prefix.len == at.len && first.prefix == *at => {
+            let node = read(nodes, i);
+            update_node(nodes, i, node, label, Some(first.hop.0));
+            *entries = rest;
+        }
+        _ => {}
+    }
+}
+
+/// The place of a half of a node, which is made a node if it is none.
+fn open_half(
+    nodes: &mut Nodes,
+    bests: &mut Bests,
+    i: usize,
+    bit: bool,
+    inherited: u16,
+) -> Result<usize, AllocError>
+    requires long { vec_len nodes.old.halves ≤ vec_len bests.old.halves }
+    ensures long { vec_len nodes.new.halves ≤ vec_len bests.new.halves }
+    ensures open { IfOk result (λ j. (d : ℕ) (name : ℕ → Owner) (n : ℕ) (p : List Bool) → 1 < d
+        → IsTree d (cells_of nodes.old) name i p → HasSpares (cells_of nodes.old) nodes.old.free name n
+        → IsHalfMade d bit (cells_of nodes.old) (cells_of nodes.new) nodes.new.free name i p inherited
+        (best_in bests.old) (best_in bests.new) j) }
+{
+    let node = read(nodes, i);
+    if let Some(j) = node.half(bit) {
+        return Ok(j);
+    }
+    reserve(nodes, bests, 1)?;
+    let j = split(nodes, i, node, bit);
+    let hop = node.route.hop.unwrap_or(inherited);
+    let mut best = Best::one(hop);
+    exchange(bests, j, &mut best);
+    Ok(j)
+}
+
+/// Sets a label for those of the entries, from the first on, whose prefixes are within that of a node, each in its turn, and takes
+/// these; the first other one is left, and those after it. The node inherits the hop from the routes. It costs the nodes on the ways
+/// to them, each once where the entries stand in the order of prefixes.
+///
+/// # Errors
+///
+/// No memory, which comes too where there would be 2^31 nodes or more; then a front of the entries may be set.
+#[cycle(merge)]
+pub(crate) fn merge(
+    nodes: &mut Nodes,
+    bests: &mut Bests,
+    i: usize,
+    at: &Prefix,
+    inherited: u16,
+    label: Label,
+    entries: &mut &[Entry],
+) -> Result<(), AllocError>
+    requires long { vec_len nodes.old.halves ≤ vec_len bests.old.halves }
+    ensures long { vec_len nodes.new.halves ≤ vec_len bests.new.halves }
+    ensures merged { OnOk result (Merges label inherited (width at.now.family - at.now.len) (prefix_as
+        at.now) (cells_of nodes.old) (cells_of nodes.new) nodes.old.free nodes.new.free (best_in
+        bests.old) (best_in bests.new) i (map entry_as entries.old.now) (map entry_as
+        entries.new.now)) }
+{
+    merge_own(nodes, i, at, label, entries);
+    if at.len == at.family.width() {
+        return Ok(());
+    }
+    match next_half(*entries, at) {
+        None => Ok(()),
+        Some(true) => {
+            merge_half(nodes, bests, i, true, at, inherited, label, entries)?;
+            Ok(())
+        }
+        Some(false) => {
+            merge_half(nodes, bests, i, false, at, inherited, label, entries)?;
+            let Some(true) = next_half(*entries, at) else {
+                return Ok(());
+            };
+            merge_half(nodes, bests, i, true, at, inherited, label, entries)?;
+            Ok(())
+        }
+    }
+}
+
+/// The same of a half of the node, which is made a node if it is none.
+#[cycle(merge)]
+fn merge_half(
+    nodes: &mut Nodes,
+    bests: &mut Bests,
+    i: usize,
+    bit: bool,
+    at: &Prefix,
+    inherited: u16,
+    label: Label,
+    entries: &mut &[Entry],
+) -> Result<(), AllocError>
+    requires longer { at.now.len < width at.now.family }
+    requires long { vec_len nodes.old.halves ≤ vec_len bests.old.halves }
+    ensures long { vec_len nodes.new.halves ≤ vec_len bests.new.halves }
+    ensures merged { OnOk result (Merges label inherited (width at.now.family - at.now.len) (prefix_as
+        at.now) (cells_of nodes.old) (cells_of nodes.new) nodes.old.free nodes.new.free (best_in
+        bests.old) (best_in bests.new) i (map entry_as entries.old.now) (map entry_as
+        entries.new.now)) }
+{
+    let half = at.half(bit);
+    let j = open_half(nodes, bests, i, bit, inherited)?;
+    let below = read(nodes, i).route.hop.unwrap_or(inherited);
+    merge(nodes, bests, j, &half, below, label, entries)?;
+    climb(nodes, i, label, true);
+    Ok(())
+}

@@ -1,9 +1,0 @@
-use Rattle.std.proofs.Common.{rules, ◌≡◌, None, replicate, sym, subst}
-use Rattle.poptrie_cursor.specs.Cursors.{Opens, FitsAll}
-use Rattle.poptrie_cursor.proofs.Opened.{none_open, none_fits}
-use Rattle.poptrie_cursor.proofs.cursors.Cursors.new.Goals as goal
-
-pub returns-clause-fits : goal.returns-clause-fits
-returns-clause-fits c = λ l due.
-    let e : c.resize.new.self.items ≡ replicate 64 None = search rules in
-    subst (λ (cs : Opens). FitsAll l cs due) (sym e) (none_fits l (replicate 64 None) due (none_open 64))

@@ -1,5 +1,0 @@
-use Rattle.poptrie_cursor.proofs.First.{IsFirstTo}
-use Rattle.poptrie_cursor.proofs.cursors.Cursors.oldest.Given as goal
-
-abbrev pub invariant-loop-number : goal.invariant-loop-number
-invariant-loop-number l = IsFirstTo l.oldest l.lookup-items l.number

@@ -1,5 +1,0 @@
-use Rattle.printed_model.proofs.Hops.{numbers_back}
-use Rattle.printed_model.proofs.numbers_law.Goals as goal
-
-pub returns : goal.returns
-returns c = numbers_back

@@ -1,7 +1,0 @@
-pub mod Rows
-pub mod Reading
-pub mod Texts
-pub mod Whole
-pub mod Used
-pub mod Numbered
-pub mod Kinds

@@ -1,0 +1,14 @@
+pub mod Hops
+pub mod Lines
+pub mod Fields
+pub mod Rows
+pub mod Plain
+pub mod Texts
+pub mod Whole
+pub mod Renamed
+pub mod Few
+pub mod Proper
+pub mod Cutting
+pub mod Taking
+pub mod LinesTaken
+pub mod Feeds

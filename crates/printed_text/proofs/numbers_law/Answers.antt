@@ -1,0 +1,5 @@
+use Rattle.printed_text.proofs.Hops.{numbers_back}
+use Rattle.printed_text.proofs.numbers_law.Goals as goal
+
+pub returns : goal.returns
+returns c = numbers_back

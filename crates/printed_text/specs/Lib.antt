@@ -1,0 +1,11 @@
+pub mod Rows
+pub mod Reading
+pub mod Texts
+pub mod Whole
+pub mod Used
+pub mod Numbered
+pub mod Kinds
+pub mod Fields
+pub mod Printed
+pub mod Steps
+pub mod Pieces

@@ -1,4 +1,0 @@
-pub mod Rib
-pub mod Update
-pub mod Input
-pub mod Reading

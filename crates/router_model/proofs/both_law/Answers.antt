@@ -1,5 +1,0 @@
-use Rattle.router_model.proofs.Told.{shortest_both}
-use Rattle.router_model.proofs.both_law.Goals as goal
-
-pub returns : goal.returns
-returns c R T steady r t = shortest_both R T r t steady

@@ -1,5 +1,0 @@
-pub mod Paths
-pub mod Attributes
-pub mod Records
-pub mod Held
-pub mod Sharing

@@ -1,0 +1,39 @@
+-- Nodes of a path.
+use Rattle.std.proofs.Common.{◌≡◌, ◌≢◌, ◌-◌, ℕ, List, [], ◌||◌, Bool, true, false, nat_eq, refl, sym, ap, subst, ◌∙◌}
+use Rattle.std.specs.Int.{bit_at}
+use Rattle.table_model.specs.Bits.{bits_of}
+use Rattle.table_model.specs.Table.{Table, root, half, cut}
+use Rattle.table_model.specs.declared.family.Family.{Family}
+use Rattle.table_model.specs.Entries.{Entries, of_family, of_table}
+use Rattle.table_model.proofs.Both.{family_is}
+use Rattle.kept_model.specs.Stays.{is_wide_mark, NoneAround}
+use Rattle.orig_tree.proofs.Paths.{no_bits, first_bit}
+use Rattle.smalta_keep.specs.Places.{IsUnmarked}
+
+pub unmarked : (M : Table) (a : Bool) → a ≡ is_wide_mark (root M) → a ≡ false → half false M ≡ [] → half true M ≡ [] → IsUnmarked M
+unmarked M a e n low high = record { wide = sym e ∙ n; below = below }
+  where
+    below : (b : Bool) → half b M ≡ []
+    below false = low
+    below true = high
+
+pub sought_end : (left q : ℕ) (T : Table) → left ≡ 0 → T ≡ cut (bits_of left q) T
+sought_end left q T z = ap (λ p. cut p T) (sym (no_bits left q z))
+
+pub sought_step : (left q : ℕ) (b : Bool) (T U : Table) → left ≢ 0 → b ≡ nat_eq (bit_at q (left - 1)) 1 → U ≡ half b T → cut (bits_of (left - 1) q) U ≡ cut (bits_of left q) T
+sought_step left q b T U n e u = ap (cut (bits_of (left - 1) q)) u ∙ ap (λ p. cut p T) (sym (first_bit left q b n e))
+
+pub around_end : (left q : ℕ) (M : Table) (m : Bool) → left ≡ 0 → m ≡ false → (m ≡ false) × NoneAround (bits_of left q) M
+around_end left q M m z e = (e, subst (λ (p : List Bool). NoneAround p M) (sym (no_bits left q z)) tt)
+
+neither : (a b : Bool) → (a || b) ≡ false → (a ≡ false) × (b ≡ false)
+neither true b e = let z : true ≡ false = e in absurd cc
+neither false b e = (refl, e)
+
+pub around_step : (left q : ℕ) (b : Bool) (M N : Table) (m w : Bool) → left ≢ 0 → b ≡ nat_eq (bit_at q (left - 1)) 1 → N ≡ half b M → w ≡ (m || is_wide_mark (root M)) → (w ≡ false) × NoneAround (bits_of (left - 1) q) N → (m ≡ false) × NoneAround (bits_of left q) M
+around_step left q b M N m w n e u v x =
+    let y = neither m (is_wide_mark (root M)) (sym v ∙ x.0) in
+    (y.0, subst (λ (p : List Bool). NoneAround p M) (sym (first_bit left q b n e)) (y.1, subst (λ (T : Table). NoneAround (bits_of (left - 1) q) T) u x.1))
+
+pub found_at : (f : Family) (B P : List Bool) (T M : Table) (E : Entries) → of_table f T ≡ E → B ≡ P → M ≡ cut B T → M ≡ cut P (of_family f E)
+found_at f B P T M E e y m = m ∙ (ap (λ p. cut p T) y ∙ ap (cut P) (sym (family_is f T) ∙ ap (of_family f) e))

@@ -1,5 +1,0 @@
-use Rattle.steady_feed.proofs.Told.{run_sum}
-use Rattle.steady_feed.proofs.told_sum_law.Goals as goal
-
-pub returns : goal.returns
-returns c = λ steady every hops held elems h e. run_sum steady every hops held elems e

@@ -1,5 +1,0 @@
-use Rattle.steady_model.proofs.Sorted.{one_order}
-use Rattle.steady_model.proofs.sorted_law.Goals as goal
-
-pub returns : goal.returns
-returns c = λ cs ds s a p up. one_order cs ds s a p up

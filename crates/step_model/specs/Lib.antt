@@ -1,4 +1,0 @@
-pub mod Script
-pub mod Rows
-pub mod Machine
-pub mod Turns

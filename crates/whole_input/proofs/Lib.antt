@@ -1,4 +1,0 @@
-pub mod Arriving
-pub mod Cutting
-pub mod Gathering
-pub mod Passes

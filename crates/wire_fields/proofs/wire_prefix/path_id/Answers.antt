@@ -1,5 +1,0 @@
-use Rattle.wire_fields.proofs.Fields.{no_octets}
-use Rattle.wire_fields.proofs.wire_prefix.path_id.Goals as goal
-
-pub returns-else-ids-clause-value : goal.returns-else-ids-clause-value
-returns-else-ids-clause-value g c = rw c.if-ids.false (no_octets _ _)

@@ -1,5 +1,0 @@
-pub mod Fields
-pub mod Addresses
-pub mod Prefixes
-pub mod Attributes
-pub mod Records
