@@ -1,32 +1,7 @@
 -- The one answer of a region.
-use Rattle.std.proofs.Common.{◌≡◌, ℕ, zero, suc, List, [], ◌∷◌, Bool, true, false, cond, Option, Some, None, length, nat_eq, refl, sym, ap, ◌∙◌, arith, ◌↔◌}
-use Rattle.std.proofs.lemmas.Bool.{eqb-true, eq-eqb}
-use Rattle.table_model.specs.Sets.{side}
-use Rattle.cert_model.specs.Rows.{common_hop, common_answer}
+use Rattle.std.proofs.Common.{◌≡◌, ℕ, List, Bool, Some, length, ◌↔◌}
+use Rattle.fib_addr.specs.Answers.{one_answer}
+use Rattle.fib_addr.proofs.OneAnswer.{one_answer_is, one_answer_from}
 
-same_some : (x y : Option ℕ) (h : ℕ) → common_hop x y ≡ Some h → (x ≡ Some h) × (y ≡ Some h)
-same_some None y h e = cc
-same_some (Some g) None h e = cc
-same_some (Some g) (Some k) h e = by_test (nat_eq g k) refl e
-  where
-    by_test : (b : Bool) → nat_eq g k ≡ b → cond b (Some g) None ≡ Some h → (Some g ≡ Some h) × (Some k ≡ Some h)
-    by_test true t f = (f, ap Some (sym (eqb-true g k t)) ∙ f)
-    by_test false t f = cc
-
-pub one_answer_is : (d : ℕ) (f : List Bool → ℕ) (h : ℕ) → common_answer d f ≡ Some h → (a : List Bool) → length a ≡ d → f a ≡ h
-unfolding common_answer
-one_answer_is zero f h e [] n = let r : f [] ≡ h = cc in r
-one_answer_is zero f h e (b ∷ a) n = absurd (omega arith)
-one_answer_is (suc d) f h e [] n = absurd (omega arith)
-one_answer_is (suc d) f h e (false ∷ a) n = one_answer_is d (side false f) h (same_some (common_answer d (side false f)) (common_answer d (side true f)) h e).0 a (omega arith)
-one_answer_is (suc d) f h e (true ∷ a) n = one_answer_is d (side true f) h (same_some (common_answer d (side false f)) (common_answer d (side true f)) h e).1 a (omega arith)
-
-pub one_answer_from : (d : ℕ) (f : List Bool → ℕ) (h : ℕ) → ((a : List Bool) → length a ≡ d → f a ≡ h) → common_answer d f ≡ Some h
-unfolding common_answer
-one_answer_from zero f h e = ap Some (e [] refl)
-one_answer_from (suc d) f h e =
-    ap (λ x. common_hop x (common_answer d (side true f))) (one_answer_from d (side false f) h (λ a l. e (false ∷ a) (ap suc l)))
-    ∙ (ap (λ x. common_hop (Some h) x) (one_answer_from d (side true f) h (λ a l. e (true ∷ a) (ap suc l))) ∙ ap (λ (b : Bool). cond b (Some h) None) (eq-eqb h h refl))
-
-pub one_answer_law : (d : ℕ) (f : List Bool → ℕ) (h : ℕ) → (common_answer d f ≡ Some h) ↔ ((a : List Bool) → length a ≡ d → f a ≡ h)
+pub one_answer_law : (d : ℕ) (f : List Bool → ℕ) (h : ℕ) → (one_answer d f ≡ Some h) ↔ ((a : List Bool) → length a ≡ d → f a ≡ h)
 one_answer_law d f h = (one_answer_is d f h, one_answer_from d f h)

@@ -14,10 +14,11 @@ use Rattle.table_model.specs.Least.{Least, set_at, k_at, bound}
 use Rattle.table_model.specs.Both.{LeastInBoth}
 use Rattle.table_model.proofs.Laws.{set_join, k_join, set_leaf, k_leaf, fresh_law}
 use Rattle.table_model.proofs.Cost.{k_alike}
-use Rattle.cert_model.specs.Rows.{CertRow, leaf_row, join_row, bound_row, whole_prefix, common_answer, leaf_or, region_rows, certificate_of}
+use Rattle.fib_addr.specs.Answers.{one_answer}
+use Rattle.cert_model.specs.Rows.{CertRow, leaf_row, join_row, bound_row, whole_prefix, leaf_or, region_rows, certificate_of}
 use Rattle.cert_model.specs.Right.{Item, leaf_item, join_item, StackReads, HaveBound, IsCertificate}
 use Rattle.cert_model.proofs.Regions.{get_all}
-use Rattle.cert_model.proofs.Answers.{one_answer_is}
+use Rattle.fib_addr.proofs.OneAnswer.{one_answer_is}
 
 abbrev table_of : Entries → Prefix → List Bool → ℕ
 table_of R p a = lpm (of_family p.family R) (p.bits ++ a) 0
@@ -84,7 +85,7 @@ region_pushes R (suc d) f p s e =
     let deep : w - length p.bits ≡ suc d = omega arith in
     let k : k_of (suc d) f ≡ k_at w (of_family p.family R) p.bits =
     k_alike (suc d) f (answers (of_family p.family R) p.bits) e ∙ ap (λ x. k_of x (answers (of_family p.family R) p.bits)) (sym deep) in
-    pushes_either R p (common_answer (suc d) f) _ (omega arith)
+    pushes_either R p (one_answer (suc d) f) _ (omega arith)
     (λ h o a n. let l : length a ≡ suc d = omega (arith, length-append p.bits a) in sym (e a l) ∙ one_answer_is (suc d) f h o a l)
     (pushes_join R p (region_rows d (side false f) (half_at false p)) (region_rows d (side true f) (half_at true p)) (k_of (suc d) f) (omega arith) k
     (region_pushes R d (side false f) (half_at false p) (omega (arith, length-append p.bits (false ∷ []))) (λ a n. e (false ∷ a) (ap suc n) ∙ sym (half_answer R p false a)))

@@ -11,11 +11,12 @@ use Rattle.table_model.proofs.SamePrefix.{same_family_is, same_family_itself, sa
 use Rattle.table_model.specs.Entries.{Entries, of_family}
 use Rattle.table_model.specs.Uniform.{AllGet}
 use Rattle.table_model.specs.Sets.{answers}
-use Rattle.cert_model.specs.Rows.{CertRow, leaf_row, join_row, bound_row, whole_prefix, common_answer}
+use Rattle.fib_addr.specs.Answers.{one_answer}
+use Rattle.cert_model.specs.Rows.{CertRow, leaf_row, join_row, bound_row, whole_prefix}
 use Rattle.cert_model.specs.Right.{Item, leaf_item, join_item, joint_k, bound_by, StackReads, HaveBound}
 use Rattle.cert_model.specs.Verdict.{Shape, LeafWrong, JoinWrong, is_answer, all_get, are_halves, wrong_row, RowFits}
 use Rattle.cert_model.proofs.Regions.{get_bits, get_all}
-use Rattle.cert_model.proofs.Answers.{one_answer_is, one_answer_from}
+use Rattle.fib_addr.proofs.OneAnswer.{one_answer_is, one_answer_from}
 
 is_answer_is : (h : ℕ) (o : Option ℕ) → is_answer h o ≡ true → o ≡ Some h
 is_answer_is h None e = cc
@@ -27,7 +28,7 @@ pub all_get_is : (R : Entries) (p : Prefix) (h : ℕ) → IsPrefix p → all_get
 all_get_is R p h s e =
     let d = width p.family - length p.bits in
     let f = answers (of_family p.family R) p.bits in
-    get_all R p h (λ a l. one_answer_is d f h (is_answer_is h (common_answer d f) e) a (let n : length a ≡ d = omega (arith, length-append p.bits a) in n))
+    get_all R p h (λ a l. one_answer_is d f h (is_answer_is h (one_answer d f) e) a (let n : length a ≡ d = omega (arith, length-append p.bits a) in n))
 
 pub all_get_from : (R : Entries) (p : Prefix) (h : ℕ) → IsPrefix p → AllGet R p h → all_get R p h ≡ true
 all_get_from R p h s g =

@@ -1,5 +1,5 @@
 -- The rows of a certificate, and those that a table of routes has.
-use Rattle.std.specs.Prelude.{ℕ, zero, suc, List, [], ◌∷◌, ◌++◌, Bool, true, false, cond, Option, Some, None, nat_eq}
+use Rattle.std.specs.Prelude.{ℕ, zero, suc, List, [], ◌∷◌, ◌++◌, Bool, true, false, Option, Some, None}
 use Rattle.table_model.specs.Width.{width}
 use Rattle.table_model.specs.Address.{Prefix}
 use Rattle.table_model.specs.Halves.{half_at}
@@ -8,6 +8,7 @@ use Rattle.table_model.specs.declared.family.Family.TheVariants.{V4, V6}
 use Rattle.table_model.specs.Entries.{Entries, of_family}
 use Rattle.table_model.specs.Sets.{side, k_of, answers}
 use Rattle.table_model.specs.Least.{bound}
+use Rattle.fib_addr.specs.Answers.{one_answer}
 
 -- A leaf row says that every address of the prefix gets the hop. A join row puts a region together from its halves, and
 -- says its k. A bound row says how many entries a least table of the family has.
@@ -20,17 +21,6 @@ pub data CertRow : Type 0 where
 abbrev pub whole_prefix : Family → Prefix
 whole_prefix f = record { family = f; bits = [] }
 
--- the one hop of both, if there is one
-abbrev pub common_hop : Option ℕ → Option ℕ → Option ℕ
-common_hop (Some g) (Some h) = cond (nat_eq g h) (Some g) None
-common_hop (Some g) None = None
-common_hop None o = None
-
--- the one answer of a region of d more bits with the answers f, if there is one
-unfoldable pub common_answer : ℕ → (List Bool → ℕ) → Option ℕ
-common_answer zero f = Some (f [])
-common_answer (suc d) f = common_hop (common_answer d (side false f)) (common_answer d (side true f))
-
 -- a leaf row where there is one answer, else these rows
 abbrev pub leaf_or : Option ℕ → Prefix → List CertRow → List CertRow
 leaf_or (Some h) p rows = leaf_row p h ∷ []
@@ -40,7 +30,7 @@ leaf_or None p rows = rows
 unfoldable pub region_rows : ℕ → (List Bool → ℕ) → Prefix → List CertRow
 region_rows zero f p = leaf_row p (f []) ∷ []
 region_rows (suc d) f p =
-    leaf_or (common_answer (suc d) f) p (region_rows d (side false f) (half_at false p) ++ (region_rows d (side true f) (half_at true p) ++ (join_row p (k_of (suc d) f) ∷ [])))
+    leaf_or (one_answer (suc d) f) p (region_rows d (side false f) (half_at false p) ++ (region_rows d (side true f) (half_at true p) ++ (join_row p (k_of (suc d) f) ∷ [])))
 
 -- the rows of all addresses of a family, and its bound
 abbrev pub family_rows : Family → Entries → List CertRow

@@ -16,7 +16,8 @@ use Rattle.table_model.specs.declared.family.Family.TheVariants.{V4, V6}
 use Rattle.table_model.specs.Entries.{Entries, of_family, match_in}
 use Rattle.table_model.specs.Sets.{side, answers}
 use Rattle.table_model.specs.Least.{bound}
-use Rattle.cert_model.specs.Rows.{CertRow, leaf_row, join_row, bound_row, whole_prefix, common_answer}
+use Rattle.fib_addr.specs.Answers.{one_answer}
+use Rattle.cert_model.specs.Rows.{CertRow, leaf_row, join_row, bound_row, whole_prefix}
 use Rattle.cert_model.specs.Right.{Item, leaf_item, join_item, joint_k, bound_by}
 
 -- What is wrong. `Twice`: the prefix stands twice in the routes or in the table. `NotSame`: the address gets the first hop
@@ -75,7 +76,7 @@ is_answer h (Some g) = nat_eq g h
 
 -- whether every address of the prefix gets the hop
 abbrev pub all_get : Entries → Prefix → ℕ → Bool
-all_get R p h = is_answer h (common_answer (width p.family - length p.bits) (answers (of_family p.family R) p.bits))
+all_get R p h = is_answer h (one_answer (width p.family - length p.bits) (answers (of_family p.family R) p.bits))
 
 -- the row's prefix is one
 abbrev pub RowFits : CertRow → Type 0

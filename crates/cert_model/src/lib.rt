@@ -18,7 +18,8 @@ ghost use Rattle.table_model.specs.Table.{Table, IsTable, Alike};
 ghost use Rattle.table_model.specs.Entries.{Entries, of_family, match_in, AlikeInBoth};
 ghost use Rattle.table_model.specs.Least.{Least};
 ghost use Rattle.table_model.specs.Both.{LeastInBoth};
-ghost use Rattle.cert_model.specs.Rows.{CertRow, whole_prefix, common_answer, certificate_of};
+ghost use Rattle.fib_addr.specs.Answers.{one_answer};
+ghost use Rattle.cert_model.specs.Rows.{CertRow, whole_prefix, certificate_of};
 ghost use Rattle.cert_model.specs.Right.{IsRight, bound_by, IsCertificate};
 ghost use Rattle.cert_model.specs.Renamed.{renamed, renamed_rows, hops_of_entries, KeepsApart};
 ghost use Rattle.cert_model.specs.Verdict.{No, NotSame, IsLeastDiffering, RowFits, twice, not_same, too_many_in, verdict};
@@ -29,7 +30,7 @@ pub use sink::RowSink;
 
 /// The one answer of a region is found where there is one.
 pub fn one_answer_law()
-    ensures { (d : ℕ) (f : List Bool → ℕ) (h : ℕ) → (common_answer d f ≡ Some h)
+    ensures { (d : ℕ) (f : List Bool → ℕ) (h : ℕ) → (one_answer d f ≡ Some h)
         ↔ ((a : List Bool) → length a ≡ d → f a ≡ h) }
 {}
 

@@ -1,8 +1,9 @@
 -- Regions with two answers.
 use Rattle.std.proofs.Common.{◌≡◌, ◌≢◌, ℕ, zero, suc, ◌⊎◌, List, [], ◌∷◌, Bool, true, false, cond, Option, Some, None, length, nat_eq, refl, sym, ap, ◌∙◌, inl, inr}
 use Rattle.std.proofs.lemmas.Bool.{eq-eqb}
-use Rattle.fib_addr.specs.Answers.{side, same_hop, one_answer, Differ}
+use Rattle.fib_addr.specs.Answers.{same_hop, one_answer, Differ}
 use Rattle.fib_addr.proofs.OneAnswer.{one_answer_is}
+use Rattle.table_model.specs.Sets.{side}
 
 zeros : (d : ℕ) → (a : List Bool) × (length a ≡ d)
 zeros zero = ([], refl)

@@ -1,7 +1,8 @@
 -- The one answer of a region.
 use Rattle.std.proofs.Common.{◌≡◌, ℕ, zero, suc, ◌+◌, ◌<◌, List, [], ◌∷◌, ◌++◌, Bool, true, false, cond, Option, Some, None, length, nat_eq, refl, sym, ap, ◌∙◌, arith, length-append}
 use Rattle.std.proofs.lemmas.Bool.{eqb-true, eq-eqb}
-use Rattle.fib_addr.specs.Answers.{side, part, same_hop, one_answer}
+use Rattle.fib_addr.specs.Answers.{part, same_hop, one_answer}
+use Rattle.table_model.specs.Sets.{side}
 
 same_some : (x y : Option ℕ) (h : ℕ) → same_hop x y ≡ Some h → (x ≡ Some h) × (y ≡ Some h)
 same_some None y h e = cc

@@ -14,9 +14,10 @@ use Rattle.table_model.specs.Uniform.{AllGet, TwoDiffer}
 use Rattle.fib_addr.specs.Views.{prefix_as}
 use Rattle.fib_addr.specs.declared.prefix.Prefix as code
 use Rattle.fib_addr.specs.declared.entry.Hop.{Hop}
-use Rattle.fib_addr.specs.Answers.{one_answer, side, answers_in, bits_in}
+use Rattle.fib_addr.specs.Answers.{one_answer, answers_in, bits_in}
 use Rattle.fib_addr.proofs.OneAnswer.{one_answer_from}
 use Rattle.fib_addr.proofs.Differing.{differ_none}
+use Rattle.table_model.specs.Sets.{side}
 
 pub prefix_length : (p : code.Prefix) → length (prefix_as p).bits ≡ p.len
 prefix_length p = let m = length-take p.len (bits_of (width p.family) p.bits) in omega (arith, m, length-bits_of (width p.family) p.bits, p.fits)

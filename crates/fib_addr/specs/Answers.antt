@@ -1,5 +1,5 @@
 -- Regions of addresses by the bits that follow, and the one answer of a region.
-use Rattle.std.specs.Prelude.{◌≡◌, ◌≢◌, ℕ, zero, suc, ◌-◌, List, [], ◌∷◌, ◌++◌, Bool, true, false, cond, Option, Some, None, nat_eq, length}
+use Rattle.std.specs.Prelude.{◌≡◌, ◌≢◌, ℕ, zero, suc, ◌-◌, List, [], ◌++◌, Bool, true, false, cond, Option, Some, None, nat_eq, length}
 use Rattle.table_model.specs.Width.{width}
 use Rattle.table_model.specs.Address.{Prefix}
 use Rattle.table_model.specs.declared.family.Family.{Family}
@@ -17,10 +17,7 @@ bits_in p = width p.family - length p.bits
 abbrev pub all_answers : Family → Entries → List Bool → ℕ
 all_answers f L = answers_in L (record { family = f; bits = [] })
 
--- the answers in the half of first bit b, and in the part whose first bits are p
-abbrev pub side : Bool → (List Bool → ℕ) → List Bool → ℕ
-side b f a = f (b ∷ a)
-
+-- the answers in the part whose first bits are p
 abbrev pub part : List Bool → (List Bool → ℕ) → List Bool → ℕ
 part p f a = f (p ++ a)
 
@@ -31,7 +28,8 @@ Differ d f = (a : List Bool) × (b : List Bool) × (length a ≡ d) × (length b
 -- the one answer of both, if there is one
 abbrev pub same_hop : Option ℕ → Option ℕ → Option ℕ
 same_hop (Some g) (Some h) = cond (nat_eq g h) (Some g) None
-same_hop _ _ = None
+same_hop (Some g) None = None
+same_hop None o = None
 
 -- the one answer of a region of d more bits with the answers f, if there is one: the region is uniform exactly there
 unfoldable pub one_answer : ℕ → (List Bool → ℕ) → Option ℕ

@@ -2,7 +2,8 @@
 
 ghost use Rattle.std.specs.Prelude.{◌≡◌, ℕ, ◌+◌, ◌<◌, List, Bool, Some, None, IfSome, IfNone};
 ghost use Rattle.fib_addr.specs.Views.{prefix_as};
-ghost use Rattle.fib_addr.specs.Answers.{one_answer, side, answers_in, bits_in};
+ghost use Rattle.fib_addr.specs.Answers.{one_answer, answers_in, bits_in};
+ghost use Rattle.table_model.specs.Sets.{side};
 
 use crate::{Answers, Hop, Prefix};
 

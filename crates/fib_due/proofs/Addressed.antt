@@ -23,7 +23,8 @@ use Rattle.table_model.specs.Regions.{above, lift, join}
 use Rattle.table_model.specs.Sets.{is_in, common, joint, or_else, side, set_of, smallest, pick, own, agg, answers}
 use Rattle.table_model.specs.Both.{aggregate_in, aggregate_in_both}
 use Rattle.table_model.proofs.Laws.{lpm_candidate}
-use Rattle.cert_model.specs.Rows.{CertRow, common_hop, common_answer, leaf_or, region_rows, family_rows, certificate_of}
+use Rattle.fib_addr.specs.Answers.{same_hop, one_answer}
+use Rattle.cert_model.specs.Rows.{CertRow, leaf_or, region_rows, family_rows, certificate_of}
 use Rattle.route_model.specs.Events.{Elem}
 use Rattle.route_model.specs.Choice.{Candidates, after_elem, after_elems, routes_of}
 use Rattle.kept_model.specs.Between.{between, change_at, changes_at, entry_hop_at}
@@ -159,12 +160,12 @@ answers_at_most n s R (a ∷ asks) l = (lpm_at_most n a.family R a.bits l, answe
 
 -- ---- the certificate
 
-one_at_most : (n d : ℕ) (f : List Bool → ℕ) → ((a : List Bool) → f a ≤ n) → IfSome (common_answer d f) (λ h. h ≤ n)
-unfolding common_answer
+one_at_most : (n d : ℕ) (f : List Bool → ℕ) → ((a : List Bool) → f a ≤ n) → IfSome (one_answer d f) (λ h. h ≤ n)
+unfolding one_answer
 one_at_most n zero f l = l []
-one_at_most n (suc d) f l = of_both (common_answer d (side false f)) (common_answer d (side true f)) (one_at_most n d (side false f) (λ a. l (false ∷ a)))
+one_at_most n (suc d) f l = of_both (one_answer d (side false f)) (one_answer d (side true f)) (one_at_most n d (side false f) (λ a. l (false ∷ a)))
   where
-    of_both : (o p : Option ℕ) → IfSome o (λ h. h ≤ n) → IfSome (common_hop o p) (λ h. h ≤ n)
+    of_both : (o p : Option ℕ) → IfSome o (λ h. h ≤ n) → IfSome (same_hop o p) (λ h. h ≤ n)
     of_both None p a = tt
     of_both (Some g) None a = tt
     of_both (Some g) (Some h) a = by_test (nat_eq g h)
@@ -177,7 +178,7 @@ rows_have : (hops : List Address) (d : ℕ) (f : List Bool → ℕ) (p : Prefix)
 unfolding region_rows
 rows_have hops zero f p l = (l [], tt)
 rows_have hops (suc d) f p l =
-    or_leaf (common_answer (suc d) f) _ (one_at_most (length hops) (suc d) f l)
+    or_leaf (one_answer (suc d) f) _ (one_at_most (length hops) (suc d) f l)
     (both (RowHasHop hops) (region_rows d (side false f) (half_at false p)) _ (rows_have hops d (side false f) (half_at false p) (λ a. l (false ∷ a)))
     (both (RowHasHop hops) (region_rows d (side true f) (half_at true p)) _ (rows_have hops d (side true f) (half_at true p) (λ a. l (true ∷ a))) (tt, tt)))
   where

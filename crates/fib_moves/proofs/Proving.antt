@@ -8,8 +8,9 @@ use Rattle.fib_addr.specs.Views.{prefix_as}
 use Rattle.fib_addr.specs.declared.prefix.Prefix as code
 use Rattle.table_model.specs.Table.{Table, root, half, inherit}
 use Rattle.table_model.specs.Sets.{side, k_of}
-use Rattle.cert_model.specs.Rows.{CertRow, leaf_row, join_row, common_answer, common_hop, leaf_or}
-use Rattle.cert_model.proofs.Answers.{one_answer_from}
+use Rattle.fib_addr.specs.Answers.{one_answer, same_hop}
+use Rattle.cert_model.specs.Rows.{CertRow, leaf_row, join_row, leaf_or}
+use Rattle.fib_addr.proofs.OneAnswer.{one_answer_from}
 use Rattle.orig_tree.specs.Spots.{Spot, spot_answers}
 use Rattle.ortc.proofs.Alike.{half_answers, two_answers}
 use Rattle.moves_model.specs.Sets.{k_over, inner_set, inner_k, near_k}
@@ -19,12 +20,12 @@ use Rattle.moves_model.proofs.Regions.{inner_alike}
 use Rattle.fib_moves.specs.declared.needs.RegionNeeds.{RegionNeeds}
 use Rattle.fib_moves.specs.Needs.{Knows}
 
-one_alike : (d : ℕ) (f g : List Bool → ℕ) → ((a : List Bool) → length a ≡ d → f a ≡ g a) → common_answer d f ≡ common_answer d g
-unfolding common_answer
+one_alike : (d : ℕ) (f g : List Bool → ℕ) → ((a : List Bool) → length a ≡ d → f a ≡ g a) → one_answer d f ≡ one_answer d g
+unfolding one_answer
 one_alike zero f g e = ap Some (e [] refl)
 one_alike (suc d) f g e =
-    ap (λ x. common_hop x (common_answer d (side true f))) (one_alike d (side false f) (side false g) (λ a l. e (false ∷ a) (ap suc l)))
-    ∙ ap (common_hop (common_answer d (side false g))) (one_alike d (side true f) (side true g) (λ a l. e (true ∷ a) (ap suc l)))
+    ap (λ x. same_hop x (one_answer d (side true f))) (one_alike d (side false f) (side false g) (λ a l. e (false ∷ a) (ap suc l)))
+    ∙ ap (same_hop (one_answer d (side false g))) (one_alike d (side true f) (side true g) (λ a l. e (true ∷ a) (ap suc l)))
 
 k_alike : (d : ℕ) (f g : List Bool → ℕ) (T : Table) → ((a : List Bool) → length a ≡ d → f a ≡ g a) → near_k d f T ≡ near_k d g T
 k_alike d f g T e = let x = inner_alike d f g T e in ap (λ S. k_over (root T) S (inner_k d f T)) x.0 ∙ ap (k_over (root T) (inner_set d g T)) x.1
@@ -43,7 +44,7 @@ unfolding near_region_rows
 rows_leaf zero f T h p b e = ap (λ x. leaf_row p x ∷ []) (e [] refl)
 rows_leaf (suc d) f T h p b e =
     let rest = near_region_rows d (side false f) (half false T) (half_at false p) ++ (near_region_rows d (side true f) (half true T) (half_at true p) ++ (join_row p (near_k (suc d) f T) ∷ [])) in
-    ap (λ (x : Bool). leaf_or (cond x (common_answer (suc d) f) None) p rest) b ∙ ap (λ o. leaf_or o p rest) (one_answer_from (suc d) f h e)
+    ap (λ (x : Bool). leaf_or (cond x (one_answer (suc d) f) None) p rest) b ∙ ap (λ o. leaf_or o p rest) (one_answer_from (suc d) f h e)
 
 rows_join : (d : ℕ) (f : List Bool → ℕ) (T : Table) (p : Prefix) → leaf_answer (suc d) f T ≡ None
     → near_region_rows (suc d) f T p ≡ near_region_rows d (side false f) (half false T) (half_at false p) ++ (near_region_rows d (side true f) (half true T) (half_at true p) ++ (join_row p (near_k (suc d) f T) ∷ []))
@@ -93,7 +94,7 @@ no_leaf d f T s b x e = by_depth d f (subst (Knows d f T) e x)
   where
     by_depth : (d : ℕ) (f : List Bool → ℕ) → Knows d f T (Some b) → (leaf_answer d f T ≡ None) × (d ≢ 0)
     by_depth zero f x = absurd x
-    by_depth (suc d) f x = (ap (λ (y : Bool). cond y (common_answer (suc d) f) None) x.0, λ z. omega (arith, z))
+    by_depth (suc d) f x = (ap (λ (y : Bool). cond y (one_answer (suc d) f) None) x.0, λ z. omega (arith, z))
 
 pub two_leaves : (d : ℕ) (f : List Bool → ℕ) (T : Table) → k_of d f ≢ 0 → leaf_answer d f T ≡ None
 two_leaves d f T n = ap (λ o. cond (is_bare T) o None) (two_answers d f n) ∙ same (is_bare T)

@@ -9,9 +9,10 @@ use Rattle.table_model.specs.Table.{Table, IsTable, lpm, root, half, cut}
 use Rattle.table_model.specs.Entries.{Entries, of_family}
 use Rattle.table_model.specs.Sets.{side, answers}
 use Rattle.table_model.proofs.Patch.{table_half, no_half, cut_cut}
-use Rattle.cert_model.specs.Rows.{CertRow, leaf_row, join_row, whole_prefix, common_answer, leaf_or}
+use Rattle.fib_addr.specs.Answers.{one_answer}
+use Rattle.cert_model.specs.Rows.{CertRow, leaf_row, join_row, whole_prefix, leaf_or}
 use Rattle.cert_model.proofs.Regions.{get_all}
-use Rattle.cert_model.proofs.Answers.{one_answer_is}
+use Rattle.fib_addr.proofs.OneAnswer.{one_answer_is}
 use Rattle.moves_model.specs.Sets.{Allowed, these, set_over, k_over, inner_set, inner_k, near_set, near_k}
 use Rattle.moves_model.specs.Nearest.{near_bound}
 use Rattle.moves_model.specs.Demands.{change_bound, Demand, join_demand, none_below, is_bare, has_no_entries, DemandsRead, HaveChangeBound}
@@ -108,7 +109,7 @@ module _ (R T : Entries) where
       ∙ (ap (λ y. k_over (root (old_in p)) y (inner_k (suc d) f L)) xs ∙ ap (k_over (root (old_in p)) (set_at w (of_family p.family R) (of_family p.family T) p.bits)) xk) in
       pushes_either p (leaf_answer (suc d) f L) _ (omega arith)
       (λ h o.
-      let z = answer_of (is_bare L) (common_answer (suc d) f) h o in
+      let z = answer_of (is_bare L) (one_answer (suc d) f) h o in
       (ap is_bare (sym i) ∙ z.0, λ a n. let l : length a ≡ suc d = omega (arith, length-append p.bits a) in sym (e a l) ∙ one_answer_is (suc d) f h z.1 a l))
       (pushes_join p (near_region_rows d (side false f) (half false L) (half_at false p)) (near_region_rows d (side true f) (half true L) (half_at true p)) (near_k (suc d) f L) (omega arith) k
       (region_pushes d (side false f) (half false L) (half_at false p) (omega (arith, length-append p.bits (false ∷ []))) (table_half false d L t) (half_old p false L i) (λ a n. e (false ∷ a) (ap suc n) ∙ sym (half_answer p false a)))

@@ -7,14 +7,15 @@ use Rattle.table_model.specs.declared.family.Family.{Family}
 use Rattle.table_model.specs.Table.{Table, half}
 use Rattle.table_model.specs.Entries.{Entries, of_family, of_table}
 use Rattle.table_model.specs.Sets.{side, answers}
-use Rattle.cert_model.specs.Rows.{CertRow, leaf_row, join_row, bound_row, whole_prefix, common_answer, leaf_or}
+use Rattle.fib_addr.specs.Answers.{one_answer}
+use Rattle.cert_model.specs.Rows.{CertRow, leaf_row, join_row, bound_row, whole_prefix, leaf_or}
 use Rattle.moves_model.specs.Sets.{near_k}
 use Rattle.moves_model.specs.Nearest.{nearest, near_bound}
 use Rattle.moves_model.specs.Demands.{is_bare}
 
 -- the hop of a leaf's addresses, if the region is a leaf: all get one, and no old entry stands strictly within
 abbrev pub leaf_answer : ℕ → (List Bool → ℕ) → Table → Option ℕ
-leaf_answer d f T = cond (is_bare T) (common_answer d f) None
+leaf_answer d f T = cond (is_bare T) (one_answer d f) None
 
 -- the rows of the region p of d more bits with the answers f and the old entries T, its halves' before its own
 unfoldable pub near_region_rows : ℕ → (List Bool → ℕ) → Table → Prefix → List CertRow

@@ -11,14 +11,15 @@ use Rattle.table_model.specs.Entries.{Entries, of_family}
 use Rattle.table_model.specs.Sets.{side, set_of, k_of, answers}
 use Rattle.table_model.specs.Least.{Least, bound}
 use Rattle.ortc.specs.Proved.{ProveLeast}
-use Rattle.cert_model.specs.Rows.{CertRow, leaf_row, join_row, bound_row, common_answer, leaf_or, region_rows, whole_prefix, family_rows}
+use Rattle.cert_model.specs.Rows.{CertRow, leaf_row, join_row, bound_row, leaf_or, region_rows, whole_prefix, family_rows}
 use Rattle.cert_model.specs.Right.{bound_by}
-use Rattle.cert_model.proofs.Answers.{one_answer_from}
+use Rattle.fib_addr.proofs.OneAnswer.{one_answer_from}
 use Rattle.cert_model.proofs.Postorder.{have_bound, few}
 use Rattle.orig_tree.proofs.Telling.{whole_len}
 use Rattle.orig_tree.specs.Spots.{Spot, spot_answers}
 use Rattle.table_model.proofs.Cost.{set_alike, k_alike}
 use Rattle.table_model.proofs.Laws.{bound_law}
+use Rattle.fib_addr.specs.Answers.{one_answer}
 use Rattle.ortc.proofs.Alike.{rows_alike, two_answers, some_bit, half_answers}
 
 -- the rows of a region with one answer
@@ -29,7 +30,7 @@ rows_leaf (suc d) f h p e =
     ap (λ o. leaf_or o p (region_rows d (side false f) (half_at false p) ++ (region_rows d (side true f) (half_at true p) ++ (join_row p (k_of (suc d) f) ∷ [])))) (one_answer_from (suc d) f h e)
 
 -- and with more than one
-rows_join : (d : ℕ) (f : List Bool → ℕ) (p : Prefix) → common_answer (suc d) f ≡ None → region_rows (suc d) f p ≡ region_rows d (side false f) (half_at false p) ++ (region_rows d (side true f) (half_at true p) ++ (join_row p (k_of (suc d) f) ∷ []))
+rows_join : (d : ℕ) (f : List Bool → ℕ) (p : Prefix) → one_answer (suc d) f ≡ None → region_rows (suc d) f p ≡ region_rows d (side false f) (half_at false p) ++ (region_rows d (side true f) (half_at true p) ++ (join_row p (k_of (suc d) f) ∷ []))
 unfolding region_rows
 rows_join d f p e = ap (λ o. leaf_or o p (region_rows d (side false f) (half_at false p) ++ (region_rows d (side true f) (half_at true p) ++ (join_row p (k_of (suc d) f) ∷ [])))) e
 
@@ -80,7 +81,7 @@ module _ {S : Type 0} (Takes : S → List CertRow → S → Type 0) where
         let P = prefix_as p in
         let e = s.bits - 1 in
         let n : suc e ≡ s.bits = omega (arith, some_bit s.bits f some) in
-        let one : common_answer (suc e) f ≡ None = ap (λ d. common_answer d f) n ∙ two_answers s.bits f some in
+        let one : one_answer (suc e) f ≡ None = ap (λ d. one_answer d f) n ∙ two_answers s.bits f some in
         let A = region_rows e (side false f) (half_at false P) in
         let B = region_rows e (side true f) (half_at true P) in
         let C : List CertRow = join_row P (k_of (suc e) f) ∷ [] in

@@ -6,7 +6,8 @@ use Rattle.std.proofs.lemmas.Bool.{cases_lt}
 use Rattle.table_model.specs.Bits.{bits_of}
 use Rattle.poptrie_build.specs.Bits.{rank_of}
 use Rattle.poptrie_build.specs.Strides.{slots, slot, slot_bits, total}
-use Rattle.fib_addr.specs.Answers.{side, same_hop, one_answer}
+use Rattle.fib_addr.specs.Answers.{same_hop, one_answer}
+use Rattle.table_model.specs.Sets.{side}
 use Rattle.buddy_arena.specs.Powers.{up}
 use Rattle.poptrie_build.specs.Need.{children, runs, if_mixed, need_nodes, need_leaves}
 use Rattle.poptrie_build.specs.Stands.{Stands, BySlot, IsLeaf, node_at}

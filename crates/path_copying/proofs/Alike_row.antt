@@ -7,7 +7,8 @@ use Rattle.table_model.specs.Bits.{bits_of}
 use Rattle.buddy_arena.specs.Space.{Space}
 use Rattle.buddy_arena.specs.Places.{count_free, is_out}
 use Rattle.buddy_arena.specs.Arrays.{Array, places_of}
-use Rattle.fib_addr.specs.Answers.{part, side, one_answer}
+use Rattle.fib_addr.specs.Answers.{part, one_answer}
+use Rattle.table_model.specs.Sets.{side}
 use Rattle.poptrie_build.specs.Strides.{slots, slot, mixed}
 use Rattle.poptrie_build.specs.Need.{children, runs, trie_nodes, trie_leaves}
 use Rattle.poptrie_build.specs.declared.node.Node.{Node}

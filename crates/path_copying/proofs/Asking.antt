@@ -7,7 +7,8 @@ use Rattle.buddy_arena.specs.Refusals.{IsRefusal}
 use Rattle.buddy_arena.specs.declared.blocks.Refused.{Refused}
 use Rattle.buddy_arena.specs.declared.blocks.Refused.TheVariants as refused
 use Rattle.buddy_arena.proofs.Sets.{both_left, both_right, both}
-use Rattle.fib_addr.specs.Answers.{one_answer, side}
+use Rattle.fib_addr.specs.Answers.{one_answer}
+use Rattle.table_model.specs.Sets.{side}
 use Rattle.poptrie_build.specs.Strides.{slots, slot}
 use Rattle.poptrie_build.specs.Need.{children, runs}
 use Rattle.path_copying.specs.declared.blocks.Refusal.{Refusal}

@@ -2,7 +2,8 @@
 use Rattle.std.proofs.Common.{◌≡◌, ℕ, zero, suc, ◌+◌, ◌-◌, ◌*◌, ◌^◌, ◌<◌, ◌≤◌, List, [], ◌∷◌, Bool, true, false, Option, Some, None, length, refl, ap, arith}
 use Rattle.std.specs.Prelude.{nat_lt, cond}
 use Rattle.buddy_arena.specs.Arrays.{Array, AreApart}
-use Rattle.fib_addr.specs.Answers.{one_answer, side}
+use Rattle.fib_addr.specs.Answers.{one_answer}
+use Rattle.table_model.specs.Sets.{side}
 use Rattle.poptrie_build.specs.Bits.{rank_of}
 use Rattle.buddy_arena.specs.Powers.{up}
 use Rattle.poptrie_build.specs.Strides.{slots, slot}

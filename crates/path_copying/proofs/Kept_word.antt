@@ -5,7 +5,8 @@ use Rattle.std.proofs.lemmas.Bool.{cases_lt}
 use Rattle.table_model.specs.Bits.{bits_of}
 use Rattle.buddy_arena.specs.Space.{Space}
 use Rattle.buddy_arena.specs.Places.{Keeps, is_out}
-use Rattle.fib_addr.specs.Answers.{one_answer, part, side}
+use Rattle.fib_addr.specs.Answers.{one_answer, part}
+use Rattle.table_model.specs.Sets.{side}
 use Rattle.poptrie_build.specs.Stands.{BySlot, node_at, blank}
 use Rattle.poptrie_build.specs.Build.{StandsIn, WordIn}
 use Rattle.poptrie_build.specs.declared.node.Node.{Node}

@@ -8,7 +8,8 @@ use Rattle.table_model.specs.Bits.{bits_of}
 use Rattle.buddy_arena.specs.Space.{Space}
 use Rattle.buddy_arena.specs.Places.{Keeps, is_out}
 use Rattle.buddy_arena.specs.Blocks.{Held}
-use Rattle.fib_addr.specs.Answers.{part, side}
+use Rattle.fib_addr.specs.Answers.{part}
+use Rattle.table_model.specs.Sets.{side}
 use Rattle.poptrie_build.specs.Stands.{blank}
 use Rattle.poptrie_build.specs.declared.node.Node.{Node}
 use Rattle.poptrie_build.proofs.Slotting.{double, low_bits, high_bits}

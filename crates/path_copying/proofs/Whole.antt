@@ -8,7 +8,8 @@ use Rattle.buddy_arena.specs.Places.{count_free, is_out}
 use Rattle.buddy_arena.specs.Arrays.{Array, AreApart, places_of}
 use Rattle.buddy_arena.proofs.Parting.{part_right}
 use Rattle.buddy_arena.proofs.Sets.{swap}
-use Rattle.fib_addr.specs.Answers.{part, side}
+use Rattle.fib_addr.specs.Answers.{part}
+use Rattle.table_model.specs.Sets.{side}
 use Rattle.poptrie_build.specs.Strides.{total}
 use Rattle.poptrie_build.specs.Need.{trie_nodes, trie_leaves}
 use Rattle.poptrie_build.specs.Stands.{TrieStands}

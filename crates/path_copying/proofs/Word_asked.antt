@@ -7,7 +7,8 @@ use Rattle.buddy_arena.specs.Space.{Space}
 use Rattle.buddy_arena.specs.Places.{Keeps, is_out}
 use Rattle.buddy_arena.specs.Refusals.{IsRefusal}
 use Rattle.buddy_arena.specs.declared.blocks.Refused.{Refused}
-use Rattle.fib_addr.specs.Answers.{one_answer, part, side}
+use Rattle.fib_addr.specs.Answers.{one_answer, part}
+use Rattle.table_model.specs.Sets.{side}
 use Rattle.poptrie_build.specs.Stands.{blank, BySlot, node_at}
 use Rattle.poptrie_build.specs.Build.{StandsIn, WordIn}
 use Rattle.poptrie_build.specs.declared.node.Node.{Node}

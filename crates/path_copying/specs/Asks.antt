@@ -8,8 +8,9 @@ use Rattle.buddy_arena.specs.declared.blocks.Refused.TheVariants as refused
 use Rattle.buddy_arena.specs.Places.{is_out}
 use Rattle.poptrie_build.specs.declared.node.Node.{Node}
 use Rattle.path_copying.specs.Kids.{StandsAs}
-use Rattle.fib_addr.specs.Answers.{one_answer, side, part}
+use Rattle.fib_addr.specs.Answers.{one_answer, part}
 use Rattle.table_model.specs.Bits.{bits_of}
+use Rattle.table_model.specs.Sets.{side}
 use Rattle.poptrie_build.specs.Build.{WordIn}
 use Rattle.poptrie_build.specs.Strides.{slots, slot}
 use Rattle.poptrie_build.specs.Need.{children, runs}

@@ -11,7 +11,8 @@ use Rattle.table_model.specs.Width.{width}
 use Rattle.table_model.specs.declared.family.Family.{Family}
 use Rattle.table_model.specs.declared.family.Family.TheVariants.{V4, V6}
 use Rattle.table_model.proofs.BitLaws.{length-bits_of, value-bits_of, value-lt, bits_from_value}
-use Rattle.fib_addr.specs.Answers.{all_answers, part, side}
+use Rattle.fib_addr.specs.Answers.{all_answers, part}
+use Rattle.table_model.specs.Sets.{side}
 use Rattle.poptrie_build.specs.Tries.{rest}
 use Rattle.poptrie_set.specs.Lives.{Store, stores_cover, ShowsIn}
 use Rattle.poptrie_set.specs.Prepares.{SameAt, AreInOrder, StoresJust}

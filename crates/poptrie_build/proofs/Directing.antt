@@ -7,7 +7,7 @@ use Rattle.std.proofs.Math.Pow.{pow_mono}
 use Rattle.table_model.specs.Bits.{bits_of}
 use Rattle.table_model.proofs.BitLaws.{length-bits_of}
 use Rattle.buddy_arena.specs.Space.{Space, IsSized}
-use Rattle.fib_addr.specs.Answers.{side, part, one_answer}
+use Rattle.fib_addr.specs.Answers.{part, one_answer}
 use Rattle.poptrie_build.specs.Strides.{mixed}
 use Rattle.buddy_arena.specs.Powers.{up, up_from}
 use Rattle.poptrie_build.specs.Need.{need_in_u64, need_nodes, need_leaves, trie_nodes, trie_leaves}
@@ -16,6 +16,7 @@ use Rattle.buddy_arena.specs.Places.{Keeps, TakesPlaces, since}
 use Rattle.poptrie_build.specs.Build.{StandsIn, WordIn, WordsIn}
 use Rattle.poptrie_build.specs.declared.node.Node.{Node}
 use Rattle.fib_addr.proofs.OneAnswer.{one_answer_part}
+use Rattle.table_model.specs.Sets.{side}
 use Rattle.poptrie_build.proofs.Slotting.{double, low_bits, high_bits}
 use Rattle.poptrie_build.proofs.Carry.{Carries, map_slot, carry}
 use Rattle.buddy_arena.proofs.Parting.{since_now, since_not}

@@ -7,9 +7,10 @@ use Rattle.std.proofs.lemmas.Nat.Bits.{bit_at_above, shr_and_one}
 use Rattle.std.proofs.lemmas.List.{get_or_append_left, get_or-append_right, get_or-set_same, length-take}
 use Rattle.table_model.specs.Bits.{bits_of}
 use Rattle.table_model.proofs.BitLaws.{length-bits_of, bits_low}
-use Rattle.fib_addr.specs.Answers.{side, part, one_answer}
+use Rattle.fib_addr.specs.Answers.{part, one_answer}
 use Rattle.poptrie_build.specs.Slots.{AreSlots}
 use Rattle.fib_addr.proofs.OneAnswer.{one_answer_part}
+use Rattle.table_model.specs.Sets.{side}
 
 pub double : (j : ℕ) → 2 ^ suc j ≡ 2 ^ j + 2 ^ j
 double j = let e : suc j ≡ 1 + j = omega arith in ap (λ k. 2 ^ k) e ∙ pow-add 2 1 j ∙ omega arith

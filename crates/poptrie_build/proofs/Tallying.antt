@@ -6,8 +6,9 @@ use Rattle.std.proofs.Math.Dec.{eqb}
 use Rattle.std.proofs.lemmas.List.{length-take}
 use Rattle.table_model.specs.Bits.{bits_of}
 use Rattle.table_model.proofs.BitLaws.{length-bits_of}
-use Rattle.fib_addr.specs.Answers.{side, part, one_answer}
+use Rattle.fib_addr.specs.Answers.{part, one_answer}
 use Rattle.fib_addr.proofs.OneAnswer.{one_answer_part, mixed_bits}
+use Rattle.table_model.specs.Sets.{side}
 use Rattle.buddy_arena.specs.Powers.{up}
 use Rattle.poptrie_build.specs.Strides.{slot, slots, mixed, starts, or_earlier, leaf_before, run_start, total}
 use Rattle.poptrie_build.specs.Need.{need_in_u64, children, runs, need_nodes, need_leaves}

@@ -1,7 +1,8 @@
 -- How many places the nodes and the leaves of a trie need.
 use Rattle.std.specs.Prelude.{ℕ, zero, suc, ◌+◌, ◌-◌, List, Bool, true, false, Option, Some, None, min}
 use Rattle.buddy_arena.specs.Powers.{up}
-use Rattle.fib_addr.specs.Answers.{side, one_answer}
+use Rattle.fib_addr.specs.Answers.{one_answer}
+use Rattle.table_model.specs.Sets.{side}
 use Rattle.poptrie_build.specs.Strides.{slots, slot, mixed, run_start, total}
 
 -- the places that one node needs: c nodes and r leaves

@@ -4,8 +4,9 @@ use Rattle.std.specs.Prelude.{not, nat_eq}
 use Rattle.std.specs.Int.{bit_at}
 use Rattle.std.proofs.lemmas.Bool.{eq-eqb, eqb-true, eqb-false, ne_eqb}
 use Rattle.table_model.specs.Bits.{bits_of}
-use Rattle.fib_addr.specs.Answers.{side, part, one_answer}
+use Rattle.fib_addr.specs.Answers.{part, one_answer}
 use Rattle.fib_addr.proofs.OneAnswer.{mixed_bits}
+use Rattle.table_model.specs.Sets.{side}
 use Rattle.poptrie_build.specs.Need.{need_in_u64}
 use Rattle.route_tries.specs.Parts.{half_and, answer_beside, are_two, other_than, lasts, way_nodes, way_leaves, deep_nodes, deep_leaves}
 use Rattle.route_tries.proofs.Meeting.{bits_drop}

@@ -5,9 +5,9 @@ use Rattle.table_model.specs.declared.family.Family.{Family}
 use Rattle.table_model.specs.Table.{Table, half, inherit, lpm, root}
 use Rattle.table_model.specs.Entries.{Entries, of_family}
 use Rattle.table_model.proofs.Cut.{lpm_cut}
-use Rattle.table_model.specs.Sets.{answers, k_of}
+use Rattle.table_model.specs.Sets.{answers, k_of, side}
 use Rattle.table_model.proofs.Cost.{k_uniform}
-use Rattle.fib_addr.specs.Answers.{one_answer, side, part, all_answers}
+use Rattle.fib_addr.specs.Answers.{one_answer, part, all_answers}
 use Rattle.fib_addr.proofs.OneAnswer.{one_answer_is}
 use Rattle.orig_tree.specs.Spots.{Spot, spot_answers}
 

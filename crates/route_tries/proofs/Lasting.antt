@@ -5,8 +5,9 @@ use Rattle.std.proofs.lemmas.Bool.{eq-eqb}
 use Rattle.std.proofs.lemmas.List.{length-take, length-drop}
 use Rattle.table_model.specs.Bits.{bits_of}
 use Rattle.table_model.proofs.BitLaws.{length-bits_of}
-use Rattle.fib_addr.specs.Answers.{side, part, one_answer}
+use Rattle.fib_addr.specs.Answers.{part, one_answer}
 use Rattle.fib_addr.proofs.OneAnswer.{one_answer_part}
+use Rattle.table_model.specs.Sets.{side}
 use Rattle.buddy_arena.specs.Powers.{up}
 use Rattle.poptrie_build.specs.Strides.{slots, slot, slot_bits, mixed, total}
 use Rattle.poptrie_build.specs.Need.{need_in_u64, children, runs, if_mixed, need_nodes, need_leaves}

@@ -8,7 +8,8 @@ use Rattle.table_model.specs.Address.{Prefix, same_family}
 use Rattle.table_model.specs.declared.family.Family.{Family}
 use Rattle.table_model.specs.declared.family.Family.TheVariants.{V4, V6}
 use Rattle.table_model.specs.Entries.{Entries}
-use Rattle.fib_addr.specs.Answers.{side, part, all_answers, one_answer}
+use Rattle.fib_addr.specs.Answers.{part, all_answers, one_answer}
+use Rattle.table_model.specs.Sets.{side}
 use Rattle.poptrie_build.specs.Strides.{strides, mixed}
 use Rattle.poptrie_build.specs.Need.{need_in_u64, trie_nodes, trie_leaves}
 use Rattle.poptrie_build.specs.Tries.{rest, node_need, leaf_need}

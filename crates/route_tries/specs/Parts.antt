@@ -5,7 +5,8 @@ use Rattle.table_model.specs.Address.{Address, Prefix, contains}
 use Rattle.table_model.specs.declared.family.Family.{Family}
 use Rattle.table_model.specs.Entries.{Entries, match_in}
 use Rattle.buddy_arena.specs.Powers.{up}
-use Rattle.fib_addr.specs.Answers.{all_answers, side, part, same_hop, one_answer}
+use Rattle.fib_addr.specs.Answers.{all_answers, part, same_hop, one_answer}
+use Rattle.table_model.specs.Sets.{side}
 use Rattle.poptrie_build.specs.Strides.{strides, slots, slot, mixed, total}
 use Rattle.poptrie_build.specs.Need.{children, runs, if_mixed}
 use Rattle.poptrie_build.specs.Tries.{rest}

@@ -8,8 +8,8 @@ use Rattle.path_copying.specs.Words.{IsWord}
 use Rattle.path_copying.specs.Stores.{stored}
 use Rattle.path_copying.proofs.Gaining.{gains_then}
 use Rattle.std.proofs.lemmas.Result.{err_from_is_err_and}
-use Rattle.fib_addr.specs.Answers.{side}
 use Rattle.std.specs.Prelude.{true}
+use Rattle.table_model.specs.Sets.{side}
 use Rattle.path_copying.specs.Asks.{MeetsNotSlots}
 use Rattle.path_copying.proofs.Kept_word.{kept_stored, kept_same, kept_halves}
 use Rattle.path_copying.proofs.Word_asked.{slot_met, slot_refused, halves_met, low_refused, high_refused}
