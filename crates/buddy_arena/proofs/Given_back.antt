@@ -8,7 +8,7 @@ use Rattle.std.proofs.lemmas.Bool.{cases_lt}
 use Rattle.std.proofs.lemmas.List.{take_all}
 use Rattle.buddy_arena.specs.Space.{Space, IsSized, IsOut, marked}
 use Rattle.buddy_arena.specs.declared.arena.Block.{Block}
-use Rattle.buddy_arena.proofs.Blocks.{marked_len}
+use Rattle.buddy_arena.proofs.Spans.{marked_len}
 use Rattle.std.proofs.Math.Nat.{pow-succ'}
 use Rattle.buddy_arena.proofs.Totals.{given_total}
 use Rattle.buddy_arena.specs.Places.{is_out}

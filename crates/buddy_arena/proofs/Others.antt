@@ -1,7 +1,7 @@
 -- What else is out stays out.
 use Rattle.std.proofs.Common.{◌≡◌, ℕ, zero, suc, ◌+◌, ◌^◌, ◌≤◌, List, [], ◌∷◌, ◌++◌, take, drop, length, inl, inr, Bool, true, false, refl, sym, ap, ◌∙◌, subst, arith, replicate, nat_eq}
 use Rattle.buddy_arena.specs.Space.{Space, marked, blocks, num, empty, IsOut, TakesBlock, OneEach, Apart}
-use Rattle.buddy_arena.proofs.Blocks.{blocks_whole, all_replicate}
+use Rattle.buddy_arena.proofs.Spans.{blocks_whole, all_replicate}
 use Rattle.std.proofs.lemmas.List.{take_at}
 use Rattle.std.proofs.lemmas.Nat.{pow_pos}
 use Rattle.buddy_arena.proofs.Totals.{tick_le}

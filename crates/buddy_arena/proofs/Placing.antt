@@ -6,7 +6,7 @@ use Rattle.std.proofs.lemmas.Nat.{leading_length, one_shl}
 use Rattle.std.proofs.Math.ListN.{length-set}
 use Rattle.buddy_arena.specs.Space.{Space, IsSized, IsOut, marked}
 use Rattle.buddy_arena.specs.Space as arena
-use Rattle.buddy_arena.proofs.Blocks.{marked_len}
+use Rattle.buddy_arena.proofs.Spans.{marked_len}
 use Rattle.buddy_arena.specs.Powers.{up}
 use Rattle.buddy_arena.specs.Places.{TakesPlaces, is_out}
 use Rattle.buddy_arena.proofs.Powers.{up_by}

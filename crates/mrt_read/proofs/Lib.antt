@@ -1,7 +1,7 @@
 pub mod Standing
 pub mod Fed
 pub mod Headers
-pub mod Framed
+pub mod FramerStanding
 pub mod Arriving
 pub mod Cutting
 pub mod Gathering

@@ -6,7 +6,7 @@ use Rattle.std.proofs.lemmas.List.{length-take, length-drop, take-append-drop}
 use Rattle.std.proofs.Math.Nat.{mul-le-mul_left, mul-add}
 use Rattle.buddy_arena.proofs.Bits.{double}
 use Rattle.buddy_arena.specs.Space.{blocks, all_true, has_order, NoneFrom, free_count, shift}
-use Rattle.buddy_arena.proofs.Blocks.{has_append, has_shift}
+use Rattle.buddy_arena.proofs.Spans.{has_append, has_shift}
 use Rattle.buddy_arena.proofs.Totals.{total_append, total_le}
 
 whole_has : (j : ℕ) (f : List Bool) → all_true f ≡ true → has_order j (blocks j f) ≡ true

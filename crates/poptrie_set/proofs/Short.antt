@@ -4,7 +4,7 @@ use Rattle.std.proofs.Common.{◌≡◌, ℕ, zero, suc, ◌+◌, ◌-◌, ◌^�
 use Rattle.std.specs.List.{AllByRecursion}
 use Rattle.buddy_arena.specs.Space.{blocks, NoneFrom, free_count}
 use Rattle.buddy_arena.specs.declared.arena.Full.{Full}
-use Rattle.buddy_arena.proofs.Blocks.{marked_len}
+use Rattle.buddy_arena.proofs.Spans.{marked_len}
 use Rattle.buddy_arena.proofs.Powers.{up_least}
 use Rattle.fib_addr.specs.Answers.{one_answer, part}
 use Rattle.table_model.specs.Bits.{bits_of}

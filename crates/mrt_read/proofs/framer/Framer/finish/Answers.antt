@@ -1,7 +1,7 @@
 use Rattle.std.proofs.Common.{ap, option_map, arith}
 use Rattle.std.proofs.lemmas.List.{drop_all, length-drop}
 use Rattle.mrt_read.specs.Records.{fault_of}
-use Rattle.mrt_read.proofs.Framed.{ends_refused, ends_in_fault, ends_whole, front_fault}
+use Rattle.mrt_read.proofs.FramerStanding.{ends_refused, ends_in_fault, ends_whole, front_fault}
 use Rattle.mrt_read.proofs.framer.Framer.finish.Goals as goal
 
 pub returns-in-Some-clause-tells : goal.returns-in-Some-clause-tells

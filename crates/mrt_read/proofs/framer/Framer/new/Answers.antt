@@ -1,6 +1,6 @@
 use Rattle.std.proofs.Common.{[], refl}
 use Rattle.wire_model.proofs.More.{starts_so}
-use Rattle.mrt_read.proofs.Framed.{stands_on}
+use Rattle.mrt_read.proofs.FramerStanding.{stands_on}
 use Rattle.mrt_read.proofs.framer.Framer.new.Goals as goal
 
 pub returns-clause-stands : goal.returns-clause-stands

@@ -1,6 +1,6 @@
 use Rattle.std.proofs.Common.{refl, sym, ap, ◌∙◌, option_map, arith}
 use Rattle.mrt_read.specs.Records.{fault_of}
-use Rattle.mrt_read.proofs.Framed.{takes_record, takes_nothing, refuses_again, refuses_length, front_is, front_fault, front_few, record_length, next_is, next_fault, next_kept, next_none, is_the_length, is_another}
+use Rattle.mrt_read.proofs.FramerStanding.{takes_record, takes_nothing, refuses_again, refuses_length, front_is, front_fault, front_few, record_length, next_is, next_fault, next_kept, next_none, is_the_length, is_another}
 use Rattle.mrt_read.proofs.framer.Framer.next.Goals as goal
 
 pub returns-in-Some : goal.returns-in-Some
