@@ -1,5 +1,5 @@
 -- Texts that come in pieces.
-use Rattle.std.proofs.Common.{◌≡◌, ℕ, ◌+◌, ◌^◌, ◌<◌, ◌≤◌, List, [], ◌∷◌, ◌++◌, Bool, true, false, cond, Result, Ok, Err, length, map, take, drop, get_or, refl, sym, ap, subst, ◌∙◌, arith, append_assoc, append-nil, add-one, length-append}
+use Rattle.std.proofs.Common.{◌≡◌, ℕ, ◌+◌, ◌<◌, ◌≤◌, List, [], ◌∷◌, ◌++◌, Bool, true, false, cond, Result, Ok, Err, length, map, take, drop, get_or, refl, sym, ap, subst, ◌∙◌, arith, append_assoc, append-nil, add-one, length-append}
 use Rattle.std.specs.Prelude.{◌==◌}
 use Rattle.std.proofs.lemmas.Bool.{eqb-true}
 use Rattle.std.proofs.lemmas.List.{length-map, map-append, take-append-drop}
@@ -12,17 +12,14 @@ use Rattle.printed_text.specs.Rows.{PrintedRow}
 use Rattle.printed_text.specs.Reading.{line_in}
 use Rattle.printed_text.specs.Texts.{BadLine, hops_in, in_front, line_texts, lines_of, rows_after, rows_by, rows_in, with_row}
 use Rattle.printed_text.specs.Used.{Used, printed_in, used_of}
-use Rattle.printed_text.proofs.Lines.{few_lines}
 use Rattle.printed_text.specs.declared.error.BadRow as code_bad
 use Rattle.printed_text.specs.declared.error.PrintedError.{PrintedError}
 use Rattle.printed_text.specs.declared.error.PrintedError.TheVariants as error
 use Rattle.printed_text.specs.declared.pieces.PrintedReader.{PrintedReader}
-use Rattle.printed_text.specs.declared.pieces.TextReader.{TextReader}
-use Rattle.printed_text.specs.declared.pieces.TextReader.TheVariants as text
 use Rattle.printed_text.specs.declared.printed.Printed.{Printed}
 use Rattle.printed_text.specs.Printed.{IsRead, bad_as, printed_as}
 use Rattle.printed_text.specs.Steps.{TakesLines}
-use Rattle.printed_text.specs.Pieces.{EndLines, BreaksAtLine, PrintedFed, PrintedFits, PrintedStands, TextFits, TextStands}
+use Rattle.printed_text.specs.Pieces.{EndLines, BreaksAtLine, PrintedFed, PrintedStands}
 
 -- ---- octets up to a line feed
 
@@ -115,9 +112,11 @@ reader_starts reader p h l = record {
   rows = [];
   read = refl;
   kept = p;
-  few = let e : length reader.printed.hops.list ≡ 0 = ap (λ (u : Used). length u.hops) p in omega (arith, e);
   lines = l;
 }
+
+pub no_hops : (p : Printed) → printed_as p ≡ used_of [] → length p.hops.list ≤ most_hops
+no_hops p e = let none : length p.hops.list ≡ 0 = ap (λ (u : Used). length u.hops) e in omega (arith, none)
 
 -- a piece without a line feed is held
 pub holds_more : (fed piece : List ℕ) (old new : PrintedReader) → new.printed ≡ old.printed → new.lines ≡ old.lines → new.held.items ≡ old.held.items ++ piece → PrintedStands fed old → PrintedStands (fed ++ piece) new
@@ -128,7 +127,6 @@ holds_more fed piece old new p l h s = record {
   rows = s.rows;
   read = s.read;
   kept = ap printed_as p ∙ s.kept;
-  few = let e : length new.printed.hops.list ≡ length old.printed.hops.list = ap (λ (q : Printed). length q.hops.list) p in omega (arith, e, s.few);
   lines = l ∙ s.lines;
 }
 
@@ -144,8 +142,8 @@ Took old lines read result new = (rows : List PrintedRow) → printed_as old ≡
 
 -- lines that end with a piece are read, and what follows them is held
 pub reads_lines : (fed piece read : List ℕ) (last : ℕ) (old new : PrintedReader) → last < length piece → (get_or piece last 0 == 10) ≡ true → read ≡ old.held.items ++ take (last + 1) piece → new.held.items ≡ drop (last + 1) piece
-    → Took old.printed old.lines read (Ok new.lines) new.printed → length new.printed.hops.list ≤ most_hops → PrintedStands fed old → PrintedStands (fed ++ piece) new
-reads_lines fed piece read last old new lt here e h took few s =
+    → Took old.printed old.lines read (Ok new.lines) new.printed → PrintedStands fed old → PrintedStands (fed ++ piece) new
+reads_lines fed piece read last old new lt here e h took s =
     let text : List ℕ = old.held.items ++ take (last + 1) piece in
     let r : TakesLines (Ok new.lines) s.rows old.lines (line_texts text) (printed_as new.printed) = subst (λ z. TakesLines (Ok new.lines) s.rows old.lines (line_texts z) (printed_as new.printed)) e (took s.rows s.kept) in
     let ends : EndLines text = end_piece old.held.items piece last lt here in
@@ -156,9 +154,13 @@ reads_lines fed piece read last old new lt here e h took few s =
       rows = r.0;
       read = reads_more s.front text s.rows old.lines s.ends s.read s.lines ∙ r.1;
       kept = r.2;
-      few = few;
       lines = omega (arith, r.3, s.lines, ap length (s.ends text), length-append (lines_of s.front) (lines_of text), length-map (lines_of text) without_terminator);
     }
+
+-- they are no more lines than octets, with one for each octet behind them
+pub counts_lines : (lines m last : ℕ) (held piece read rest : List ℕ) → read ≡ held ++ take (last + 1) piece → rest ≡ drop (last + 1) piece → m ≤ lines + length read → m + length rest ≤ lines + length held + length piece
+counts_lines lines m last held piece read rest e h some =
+    omega (arith, some, ap length e, ap length h, length-append held (take (last + 1) piece), length-append (take (last + 1) piece) (drop (last + 1) piece), ap length (take-append-drop (last + 1) piece))
 
 -- one of them is bad
 pub reads_bad : (fed piece read : List ℕ) (last : ℕ) (old : PrintedReader) (new : Printed) (bad : code_bad.BadRow) → last < length piece → (get_or piece last 0 == 10) ≡ true → read ≡ old.held.items ++ take (last + 1) piece
@@ -209,14 +211,7 @@ whole_fails text old new (error.BadRow bad) result k took is =
     subst (λ x. IsRead x (printed_in text)) (sym is) (ap (λ (r : Result (List PrintedRow) BadLine). r >>= λ rows. Ok (used_of rows)) (sym (whole_rows text) ∙ took [] k))
 whole_fails text old new error.NoMemory result k took is = subst (λ x. IsRead x (printed_in text)) (sym is) tt
 
--- ---- what fits
-
-stands_fits : (fed : List ℕ) (n : ℕ) (reader : PrintedReader) → length fed + n < 2 ^ 64 → PrintedStands fed reader → PrintedFits n reader
-stands_fits fed n reader lt s = (omega (arith, lt, s.lines, few_lines s.front, ap length s.parts, length-append s.front reader.held.items), s.few)
-
-pub text_fits : (fed : List ℕ) (n : ℕ) (reader : TextReader) → length fed + n < 2 ^ 64 → TextStands fed reader → TextFits n reader
-text_fits fed n (text.Reading reader) lt s = stands_fits fed n reader lt s
-text_fits fed n (text.Refused bad) lt s = tt
+-- ---- a bad line
 
 -- a bad line stays one, whatever is fed
 pub still_bad : (fed piece : List ℕ) (bad : code_bad.BadRow) → BreaksAtLine fed bad → BreaksAtLine (fed ++ piece) bad

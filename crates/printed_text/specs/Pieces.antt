@@ -1,6 +1,5 @@
 -- What is read of a printed text that comes in pieces.
-use Rattle.std.specs.Prelude.{◌≡◌, ◌<◌, ◌≤◌, ◌+◌, ◌^◌, ℕ, List, ◌++◌, length, Result, Ok, Err}
-use Rattle.fib_addr.specs.Hops.{most_hops}
+use Rattle.std.specs.Prelude.{◌≡◌, ◌+◌, ℕ, List, ◌++◌, length, Result, Ok, Err}
 use Rattle.printed_text.specs.Rows.{PrintedRow}
 use Rattle.printed_text.specs.Texts.{lines_of, rows_in}
 use Rattle.printed_text.specs.Used.{printed_in, used_of}
@@ -16,6 +15,10 @@ use Rattle.printed_text.specs.declared.pieces.TextReader.TheVariants as text
 abbrev pub EndLines : List ℕ → Type 0
 EndLines octets = (more : List ℕ) → lines_of (octets ++ more) ≡ lines_of octets ++ lines_of more
 
+-- the lines that have ended, and one for each octet that is held: the most lines that what was fed has, and no more than its octets
+abbrev pub most_lines_read : PrintedReader → ℕ
+most_lines_read reader = reader.lines + length reader.held.items
+
 -- The reader was fed these octets: whole lines, whose rows are kept and which were counted, and octets that it holds.
 pub record PrintedStands (fed : List ℕ) (reader : PrintedReader) : Type 0 where
   pub front : List ℕ
@@ -24,7 +27,6 @@ pub record PrintedStands (fed : List ℕ) (reader : PrintedReader) : Type 0 wher
   pub rows : List PrintedRow
   pub read : rows_in front ≡ Ok rows
   pub kept : printed_as reader.printed ≡ used_of rows
-  pub few : length reader.printed.hops.list ≤ most_hops
   pub lines : reader.lines ≡ length (lines_of front)
 
 -- the octets have this first bad line, whatever follows them
@@ -42,11 +44,7 @@ abbrev pub TextStands : List ℕ → TextReader → Type 0
 TextStands fed (text.Reading reader) = PrintedStands fed reader
 TextStands fed (text.Refused bad) = BreaksAtLine fed bad
 
--- the reader has few hops, and so many octets more have numbers for their lines
-abbrev pub PrintedFits : ℕ → PrintedReader → Type 0
-PrintedFits n reader = (reader.lines + length reader.held.items + n < 2 ^ 64) × (length reader.printed.hops.list ≤ most_hops)
-
--- so many octets more may be fed
-abbrev pub TextFits : ℕ → TextReader → Type 0
-TextFits n (text.Reading reader) = PrintedFits n reader
-TextFits n (text.Refused bad) = Unit {0}
+-- the same of a text; behind a bad line none is counted
+abbrev pub most_lines : TextReader → ℕ
+most_lines (text.Reading reader) = most_lines_read reader
+most_lines (text.Refused bad) = 0

@@ -1,9 +1,7 @@
 //! Printed texts that come in pieces.
 
-ghost use Rattle.std.specs.Prelude.{◌≡◌, ◌≤◌, ◌++◌, List, [], ℕ, length, IfOk};
-ghost use Rattle.printed_text.specs.Used.{printed_in};
-ghost use Rattle.printed_text.specs.Pieces.{PrintedFed, PrintedFits, PrintedStands, TextFits, TextStands};
-ghost use Rattle.printed_text.specs.Printed.{IsRead};
+ghost use Rattle.std.specs.Prelude.{◌≡◌, ◌<◌, ◌≤◌, ◌+◌, ◌^◌, ◌++◌, List, [], ℕ, length, IfOk};
+ghost use Rattle.fib_addr.specs.Hops.{most_hops};
 
 use crate::error::{BadRow, PrintedError};
 use crate::printed::Printed;
@@ -20,6 +18,8 @@ pub struct PrintedReader {
     held: Vec<u8>,
     // How many lines have ended.
     lines: u64,
+    ghost few: { length printed.hops.list ≤ most_hops },
+    ghost counted: { lines + length held.items < 2 ^ 64 },
 }
 
 /// A printed text that comes in pieces: what is read of it so far, or its first bad line, which is kept until the text was fed to
@@ -33,9 +33,14 @@ pub enum TextReader {
 }
 
 impl PrintedReader {
+    ghost use Rattle.printed_text.specs.Pieces.{PrintedFed, PrintedStands, most_lines_read};
+    ghost use Rattle.printed_text.specs.Printed.{IsRead};
+    ghost use Rattle.printed_text.specs.Used.{printed_in};
+
     /// A reader that was fed nothing.
     fn new(alloc: Global) -> PrintedReader
-        ensures { PrintedStands [] result }
+        ensures none { most_lines_read result ≡ 0 }
+        ensures stands { PrintedStands [] result }
     {
         PrintedReader {
             printed: Printed::new(alloc),
@@ -46,8 +51,11 @@ impl PrintedReader {
 
     /// Takes the next octets, and reads each line that ends among them. It costs their number and that of the octets held.
     fn feed(self, piece: &[u8]) -> Result<PrintedReader, PrintedError>
-        requires { PrintedFits (length piece.now) self }
-        ensures { (fed : List ℕ) → PrintedStands fed self → PrintedFed (fed ++ piece.now) result }
+        requires { most_lines_read self + length piece.now < 2 ^ 64 }
+        ensures counts { IfOk result
+            (λ next. most_lines_read next ≤ most_lines_read self + length piece.now) }
+        ensures stands { (fed : List ℕ) → PrintedStands fed self
+            → PrintedFed (fed ++ piece.now) result }
     {
         let PrintedReader {
             mut printed,
@@ -76,7 +84,6 @@ impl PrintedReader {
 
     /// Ends the text: octets behind the last line feed are a line.
     fn finish(self) -> Result<Printed, PrintedError>
-        requires { PrintedFits 0 self }
         ensures { (fed : List ℕ) → PrintedStands fed self → IsRead result (printed_in fed) }
     {
         let PrintedReader {
@@ -90,22 +97,28 @@ impl PrintedReader {
 }
 
 impl TextReader {
+    ghost use Rattle.printed_text.specs.Pieces.{TextStands, most_lines};
+    ghost use Rattle.printed_text.specs.Printed.{IsRead};
+    ghost use Rattle.printed_text.specs.Used.{printed_in};
+
     /// A reader that was fed nothing.
     pub fn new(alloc: Global) -> TextReader
-        ensures { TextStands [] result }
+        ensures none { most_lines result ≡ 0 }
+        ensures stands { TextStands [] result }
     {
         TextReader::Reading(PrintedReader::new(alloc))
     }
 
-    /// Takes the next octets of the text. It costs their number and that of the line that hasn't ended. Behind a bad line it
-    /// takes all octets.
+    /// Takes the next octets of the text, which has fewer than 2^64 in all, so that its lines can be counted. It costs their number
+    /// and that of the line that hasn't ended. Behind a bad line it takes all octets.
     ///
     /// # Errors
     ///
     /// No memory.
     pub fn feed(self, piece: &[u8]) -> Result<TextReader, AllocError>
-        requires { TextFits (length piece.now) self }
-        ensures { IfOk result (λ next. (fed : List ℕ) → TextStands fed self
+        requires { most_lines self + length piece.now < 2 ^ 64 }
+        ensures counts { IfOk result (λ next. most_lines next ≤ most_lines self + length piece.now) }
+        ensures stands { IfOk result (λ next. (fed : List ℕ) → TextStands fed self
             → TextStands (fed ++ piece.now) next) }
     {
         match self {
@@ -124,7 +137,6 @@ impl TextReader {
     ///
     /// The first line that is no row, or whose hop is one too many; no memory.
     pub fn finish(self) -> Result<Printed, PrintedError>
-        requires { TextFits 0 self }
         ensures { (fed : List ℕ) → TextStands fed self → IsRead result (printed_in fed) }
     {
         match self {

@@ -1,6 +1,6 @@
 //! Whole printed texts.
 
-ghost use Rattle.std.specs.Prelude.{◌≡◌, ◌<◌, ◌≤◌, ◌+◌, ◌^◌, List, [], length, option_map, OnOk};
+ghost use Rattle.std.specs.Prelude.{◌≡◌, ◌<◌, ◌≤◌, ◌+◌, ◌^◌, List, [], length, option_map, IfOk, OnOk};
 ghost use Rattle.fib_addr.specs.Hops.{most_hops};
 ghost use Rattle.fib_addr.specs.Views.{addr_as};
 ghost use Rattle.printed_text.specs.Reading.{line_in};
@@ -142,6 +142,7 @@ impl Printed {
         requires few { length self.old.hops.list ≤ most_hops }
         requires fits { lines + length text.now < 2 ^ 64 }
         ensures few { OnOk result (length self.new.hops.list ≤ most_hops) }
+        ensures counted { IfOk result (λ n. n ≤ lines + length text.now) }
         ensures taken { (rows : List model.PrintedRow) → printed_as self.old ≡ used_of rows
             → TakesLines result rows lines (line_texts text.now) (printed_as self.new) }
     {

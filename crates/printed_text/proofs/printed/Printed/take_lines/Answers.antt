@@ -17,6 +17,9 @@ loop-line-init c =
 pub overflow_add-number : goal.overflow_add-number
 overflow_add-number c = omega (arith, c.requires.fits, c.loop-line.invariant.count, few_texts c.args.text.now, ap length c.in-Some.ensures.steps)
 
+pub returns-clause-counted : goal.returns-clause-counted
+returns-clause-counted c = omega (arith, c.loop-line.invariant.count, few_texts c.args.text.now, ap length c.in-None.ensures.steps.0)
+
 pub returns-clause-taken : goal.returns-clause-taken
 returns-clause-taken c = λ rows e. last_line rows c.args.lines (line_texts c.args.text.now) _ _ _ c.in-None.ensures.steps.0 c.loop-line.invariant.count (c.loop-line.invariant.left rows e)
 
