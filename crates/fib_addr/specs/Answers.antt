@@ -4,6 +4,7 @@ use Rattle.table_model.specs.Width.{width}
 use Rattle.table_model.specs.Address.{Prefix}
 use Rattle.table_model.specs.declared.family.Family.{Family}
 use Rattle.table_model.specs.Entries.{Entries, match_in}
+use Rattle.table_model.specs.Sets.{side}
 
 -- what the addresses of a prefix get by longest match, by the bits that follow the prefix
 abbrev pub answers_in : Entries → Prefix → List Bool → ℕ
