@@ -1,5 +1,6 @@
 -- What a run in steps takes of its inputs.
 use Rattle.std.specs.Prelude.{List, ℕ, Option, Result, Ok}
+use Rattle.octet_fields.specs.Field.{◌>>=◌}
 use Rattle.wire_model.specs.Rules.{rule_number}
 use Rattle.route_model.specs.Events.{Event}
 use Rattle.mrt_read.specs.declared.whole.WholeError.{WholeError}

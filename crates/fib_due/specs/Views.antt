@@ -1,5 +1,5 @@
 -- What a clause sees of this crate's values.
-use Rattle.std.specs.Prelude.{option_map}
+use Rattle.std.specs.Prelude.{option_map, ℕ, ◌+◌, ◌++◌, [], ◌∷◌}
 use Rattle.cert_check.specs.Views.{no_as}
 use Rattle.fib_same.specs.Views.{difference_as}
 use Rattle.router_moves.specs.Judged.{wrong_moves_as}

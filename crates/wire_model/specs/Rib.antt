@@ -5,7 +5,7 @@ use Rattle.table_model.specs.declared.family.Family.{Family}
 use Rattle.table_model.specs.declared.family.Family.TheVariants.{V4, V6}
 use Rattle.table_model.specs.Address.{Address, Prefix}
 use Rattle.route_model.specs.Events.{Peer, Via, Event, Announce, Withdraw}
-use Rattle.octet_fields.specs.Field.{octet_at, octets_at, number_at, all_read, one_more, times}
+use Rattle.octet_fields.specs.Field.{octet_at, octets_at, number_at, all_read, one_more, times, ◌>>=◌}
 use Rattle.wire_model.specs.declared.place.Place.TheVariants.{Rib}
 use Rattle.wire_model.specs.declared.rule.Rule.{Rule}
 use Rattle.wire_model.specs.declared.rule.Rule.TheVariants.{PeerTableForm, PeerIndex, RibForm}

@@ -4,7 +4,7 @@ use Rattle.table_model.specs.declared.family.Family.{Family}
 use Rattle.table_model.specs.declared.family.Family.TheVariants.{V4}
 use Rattle.table_model.specs.Address.{Address}
 use Rattle.route_model.specs.Events.{Peer, Via, Event, Withdraw, Down}
-use Rattle.octet_fields.specs.Field.{refuse, octet_at, octets_at, number_at, all_read}
+use Rattle.octet_fields.specs.Field.{refuse, octet_at, octets_at, number_at, all_read, ◌>>=◌}
 use Rattle.wire_model.specs.declared.place.Place.TheVariants.{Update}
 use Rattle.wire_model.specs.declared.session.Session.{Session}
 use Rattle.wire_model.specs.declared.session.Session.TheVariants.{StateChange, Message}

@@ -5,7 +5,7 @@ use Rattle.table_model.specs.declared.family.Family.TheVariants.{V4, V6}
 use Rattle.table_model.specs.Bits.{octet_bits}
 use Rattle.table_model.specs.Width.{width}
 use Rattle.table_model.specs.Address.{Address, Prefix}
-use Rattle.octet_fields.specs.Field.{refuse, octet_at, octets_at, number_at, one_more, until_end}
+use Rattle.octet_fields.specs.Field.{refuse, octet_at, octets_at, number_at, one_more, until_end, ◌>>=◌}
 use Rattle.wire_model.specs.declared.rule.Rule.{Rule}
 use Rattle.wire_model.specs.declared.rule.Rule.TheVariants.{PrefixLength, AttributeValue}
 
