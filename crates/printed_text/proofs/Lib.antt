@@ -1,6 +1,6 @@
 pub mod Hops
 pub mod Lines
-pub mod Fields
+pub mod FieldsWritten
 pub mod Rows
 pub mod Plain
 pub mod Texts

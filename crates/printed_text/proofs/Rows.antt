@@ -5,7 +5,7 @@ use Rattle.table_model.specs.Address.{Address, Prefix, IsPrefix}
 use Rattle.fib_addr.specs.Text.{address_text, prefix_text}
 use Rattle.printed_text.specs.Rows.{Announced, Vrp, PrintedRow, route_row, invalid_row, add_row, replace_row, remove_row, moves_row, answer_row, visits_row, table_row, least_row, cert_leaf_row, cert_join_row, cert_bound_row, report_row, IsRow, fields_of, count_name, family_name, hop_text, origin_text}
 use Rattle.printed_text.specs.Reading.{address_field, prefix_field, number_field, hop_field, origin_field, count_field, family_field, announced_fields, vrp_fields, announced_in, printed_vrp_in, invalid_row_in, entry_in, route_row_in, answer_in, visits_in, signed_in, change_in, moves_in, join_in, bound_in, part_in, cert_in, report_in, named_in, row_in}
-use Rattle.printed_text.proofs.Fields.{address_again, prefix_again, number_again, none_again, drop_again, origin_again, count_again, family_again}
+use Rattle.printed_text.proofs.FieldsWritten.{address_again, prefix_again, number_again, none_again, drop_again, origin_again, count_again, family_again}
 
 -- two fields, one read after the other
 both : {A B C : Type 0} (r : Result A ℕ) (s : Result B ℕ) (f : A → B → C) (x : A) (y : B) → r ≡ Ok x → s ≡ Ok y → (r >>= λ u. s >>= λ v. Ok (f u v)) ≡ Ok (f x y)
