@@ -73,7 +73,7 @@ fn take_line(
 /// or whose hop would be the 65,535th in `hops`. Costs the text's length.
 ///
 /// After an error some of the hops that came before it are in `hops`, behind those that it had.
-#[tactic(auto, using(crate::proofs::Lines::kind_starts))]
+#[tactic(auto, using(crate::proofs::LinesTaken::kind_starts))]
 pub fn read_rows(
     alloc: Global,
     text: &[u8],

@@ -137,7 +137,7 @@ impl Printed {
     /// # Errors
     ///
     /// The first line that is no row, or whose hop is one too many; no memory.
-    #[tactic(auto, using(crate::proofs::Lines::goes_on))]
+    #[tactic(auto, using(crate::proofs::LinesTaken::goes_on))]
     pub(crate) fn take_lines(&mut self, lines: u64, text: &[u8]) -> Result<u64, PrintedError>
         requires few { length self.old.hops.list ≤ most_hops }
         requires fits { lines + length text.now < 2 ^ 64 }

@@ -21,8 +21,8 @@ returns-clause-counts c =
     let rest = c.in_ok-extend_from_slice-3.ensures.items ∙ ap (λ z. z ++ c.split_at.result.1.now) c.clear.ensures.items ∙ c.split_at.ensures.back in
     counts_lines c.args.self.lines c.in_ok-lines.lines c.in-Some.last c.args.self.held.items c.args.piece.now c.deref.result.now _ text rest c.in_ok-lines.ensures.counted
 
-pub invariant_of-result : goal.invariant_of-result
-invariant_of-result c =
+pub invariant_of-result-2 : goal.invariant_of-result-2
+invariant_of-result-2 c =
     let text = c.deref.ensures.value ∙ c.in_ok-extend_from_slice-2.ensures.items ∙ ap (λ z. c.args.self.held.items ++ z) c.split_at.ensures.front in
     let rest = c.in_ok-extend_from_slice-3.ensures.items ∙ ap (λ z. z ++ c.split_at.result.1.now) c.clear.ensures.items ∙ c.split_at.ensures.back in
     let most = counts_lines c.args.self.lines c.in_ok-lines.lines c.in-Some.last c.args.self.held.items c.args.piece.now c.deref.result.now _ text rest c.in_ok-lines.ensures.counted in

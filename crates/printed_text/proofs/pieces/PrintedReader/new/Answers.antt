@@ -9,7 +9,7 @@ invariant_of-result c = record {
 }
 
 pub returns-clause-none : goal.returns-clause-none
-returns-clause-none c = ap length c.new-2.ensures.items
+returns-clause-none c = omega (arith, ap length c.new-2.ensures.items)
 
 pub returns-clause-stands : goal.returns-clause-stands
 returns-clause-stands c = reader_starts _ c.new.ensures c.new-2.ensures.items refl

@@ -1,6 +1,6 @@
 use Rattle.printed_text.proofs.Hops.{kind_numbers, kind_stays}
 use Rattle.printed_text.proofs.Whole.{kind_rows, kind_bad}
-use Rattle.printed_text.proofs.kinds_law.Goals as goal
+use Rattle.printed_text.proofs.printed_laws.kinds_law.Goals as goal
 
 pub returns-clause-rows : goal.returns-clause-rows
 returns-clause-rows c = kind_rows

@@ -1,5 +1,5 @@
 use Rattle.printed_text.proofs.Whole.{printed_rows, printed_bad}
-use Rattle.printed_text.proofs.reading_law.Goals as goal
+use Rattle.printed_text.proofs.printed_laws.reading_law.Goals as goal
 
 pub returns-clause-rows : goal.returns-clause-rows
 returns-clause-rows c = printed_rows
