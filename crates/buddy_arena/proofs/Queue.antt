@@ -10,7 +10,7 @@ use Rattle.buddy_arena.specs.declared.arena.Block.{Block}
 use Rattle.buddy_arena.specs.declared.blocks.Aside.{Aside}
 use Rattle.buddy_arena.specs.Places.{is_out}
 use Rattle.buddy_arena.specs.Arrays.{Array, Has, IsIn, AreApart, among}
-use Rattle.buddy_arena.specs.Blocks.{Held, with_taken, with_replaced, Retired, arrays_of, retired_of, blocks_of, at_end, ended, cancelled, released, late, early, EndAt, EndBy, EndsAscend, IsQueue, AreHeldIn, IsCut, GivesBack}
+use Rattle.buddy_arena.specs.Blocks.{Held, with_taken, with_replaced, Retired, arrays_of, retired_of, blocks_of, at_end, ended, cancelled, released, late, early, EndAt, EndBy, EndsAscend, IsQueue, AreHeldIn, IsCut, GivesBack, AreRetiredBy}
 use Rattle.buddy_arena.proofs.Parting.{apart_cons, apart_more}
 use Rattle.buddy_arena.proofs.Sets.{front_back, apart_less}
 
@@ -149,6 +149,11 @@ held_released space after some xs n k time since c g a =
       with_taken = less_between (is_out space.free) (is_out after.free) (arrays_of some) (blocks_of (retired_of (take k (take n xs)))) _ g.still (subst (λ (x : List Array). AreApart (is_out space.free) (arrays_of some ++ x)) parts a.with_taken);
       with_replaced = less_between (is_out space.free) (is_out after.free) (blocks_of (retired_of (drop n xs))) (blocks_of (retired_of (take k (take n xs)))) _ g.still (subst (λ (x : List Array). AreApart (is_out space.free) (blocks_of (retired_of (drop n xs)) ++ x)) parts a.with_replaced);
     }
+
+-- what is retired ends by now
+pub retired_by : (time : ℕ) (xs : List Aside) → EndBy time xs → AreRetiredBy time (retired_of xs)
+retired_by time [] e = tt
+retired_by time (x ∷ xs) e = (e.0, retired_by time xs e.1)
 
 -- nothing is left that is later than all ends
 none_late : (since time : ℕ) (xs : List Aside) → time ≤ since → EndBy time xs → late since (retired_of xs) ≡ []

@@ -33,6 +33,10 @@ abbrev pub early : ℕ → List Retired → List Retired
 early since [] = []
 early since (r ∷ rest) = cond (nat_le r.end since) (r ∷ early since rest) (early since rest)
 
+-- each was retired at an end by this time
+abbrev pub AreRetiredBy : ℕ → List Retired → Type 0
+AreRetiredBy t rs = AllByRecursion (λ (r : Retired). r.end ≤ t) rs
+
 -- as they become at an end
 abbrev pub at_end : ℕ → List Array → List Retired
 at_end t [] = []

@@ -61,7 +61,7 @@ impl Blocks {
     ghost use Rattle.buddy_arena.specs.Refusals.{IsRefusal};
     ghost use Rattle.buddy_arena.specs.Places.{is_out, count_free};
     ghost use Rattle.buddy_arena.specs.Arrays.{AreApart};
-    ghost use Rattle.buddy_arena.specs.Blocks.{AreHeldIn, GivesBack, with_taken, with_replaced, nothing_held, ended, cancelled, released, early, late, blocks_of};
+    ghost use Rattle.buddy_arena.specs.Blocks.{AreHeldIn, GivesBack, with_taken, with_replaced, nothing_held, ended, cancelled, released, early, late, blocks_of, AreRetiredBy};
 
     /// No blocks, at time 0.
     pub fn new(alloc: Global) -> Blocks
@@ -80,6 +80,13 @@ impl Blocks {
         ensures { result ≡ self.now.time }
     {
         self.time
+    }
+
+    /// What is retired was so at an end that is over. It does nothing: its clause holds at every moment.
+    pub fn retired_law(&self)
+        ensures { AreRetiredBy self.now.time self.now.retired }
+    {
+        let _time = self.time;
     }
 
     /// The pending update is over: what it took stays out as the present version's, and what it replaced is retired.

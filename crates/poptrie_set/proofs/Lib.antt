@@ -7,8 +7,10 @@ pub mod Lived
 pub mod Prepared
 pub mod Visit
 pub mod Fitting
+pub mod Unwritten
 pub mod Passed
 pub mod Some_table
+pub mod Merging
 pub mod Quiet
 pub mod First_read
 pub mod On_way
@@ -16,6 +18,7 @@ pub mod Renewed
 pub mod Restored
 pub mod Copied_version
 pub mod Changed_slots
+pub mod Taken_back
 pub mod Ready
 pub mod Ticked
 pub mod Ranges

@@ -2,16 +2,16 @@
 use Rattle.std.proofs.Common.{◌≡◌, ℕ, suc, ◌+◌, ◌*◌, ◌^◌, ◌<◌, ◌≤◌, List, [], ◌++◌, Bool, true, false, cond, take, length, get_or, refl, sym, ap, ◌∙◌, arith, subst, Result, Ok, Err}
 use Rattle.std.specs.Prelude.{◌↔◌, ◌∷◌, OnOk, OnErr, IfErr, slice_index, ◌&&◌}
 use Rattle.std.specs.List.{AllByRecursion}
-use Rattle.std.proofs.lemmas.List.{length-append}
+use Rattle.std.proofs.lemmas.List.{length-append, take_at}
 use Rattle.table_model.specs.Bits.{bits_of, begins}
-use Rattle.table_model.specs.Address.{Prefix, same_family}
+use Rattle.table_model.specs.Address.{Address, Prefix, same_family}
 use Rattle.table_model.specs.Width.{width}
 use Rattle.table_model.specs.declared.family.Family.{Family}
 use Rattle.table_model.specs.declared.family.Family.TheVariants.{V4, V6}
 use Rattle.table_model.proofs.BitLaws.{length-bits_of}
 use Rattle.table_model.proofs.SamePrefix.{same_family_itself}
-use Rattle.table_model.specs.Entries.{Entries}
-use Rattle.buddy_arena.specs.Space.{Space}
+use Rattle.table_model.specs.Entries.{Entries, match_in}
+use Rattle.buddy_arena.specs.Space.{Space, IsSized}
 use Rattle.buddy_arena.specs.Space as arena
 use Rattle.buddy_arena.specs.Places.{is_out}
 use Rattle.buddy_arena.specs.Arrays.{Array, AreApart, places_of}
@@ -39,12 +39,16 @@ use Rattle.poptrie_set.specs.Fits.{Reader, FitsIn}
 use Rattle.poptrie_set.specs.Past.{PastIn, retired_at}
 use Rattle.poptrie_set.specs.Renewals.{merged, IsSpliced, Rebuilds, SetsAside, MeetsRenewal, MeetsNotRenewal, KeepsRenewal, GivesAllBack}
 use Rattle.poptrie_set.specs.Reasons.{Explains, IsReason}
-use Rattle.poptrie_set.specs.Prepares.{AgreeOutside, SameAt, AreInOrder, StoresJust, asks_of}
+use Rattle.poptrie_set.specs.Prepares.{AgreeOutside, MergesSlots, SameAt, AreInOrder, StoresJust, asks_of}
 use Rattle.poptrie_set.specs.declared.reasons.NotReady.{NotReady}
 use Rattle.poptrie_set.specs.declared.reasons.NotReady.TheVariants as why
 use Rattle.poptrie_set.proofs.Copied_version.{applied, version_row, copied_version, copied_shows, gains_grow, not_covered}
 use Rattle.poptrie_set.proofs.Changed_slots.{word_one, same_alike, alike_same_at, stored_there}
+use Rattle.poptrie_set.specs.Cells.{KeepsCells, KeepsCellsOf}
+use Rattle.poptrie_set.specs.Undone.{IsReadyFrom, IsAsBefore}
+use Rattle.poptrie_set.proofs.Taken_back.{room_taken}
 use Rattle.poptrie_set.proofs.Fitting.{fits_all, prepare_fits}
+use Rattle.poptrie_set.proofs.Unwritten.{grown_cells}
 use Rattle.poptrie_set.proofs.Kept.{Grows, version_grown}
 use Rattle.poptrie_set.proofs.Lived.{seen_as}
 use Rattle.poptrie_set.proofs.Prepared.{quiet_version}
@@ -111,6 +115,23 @@ agree_merged f s p F L M e few is agree u l a n = by (begins (take s p.bits) (bi
     by true q = ap (λ (g : List Bool → ℕ). g (bits_of s u ++ a)) (sym is)
     by false q = agree (record { family = f; bits = bits_of s u ++ a }) long (sym e) (begins_not p.family f p.bits (bits_of s u ++ a) e (begins_less s p.bits (bits_of s u) a (length-bits_of s u) q))
 
+-- a table that takes the slots that the prefix meets from the second one
+pub merged_by : (f : Family) (s : ℕ) (p : Prefix) (F : List Bool → ℕ) (L M N : Entries) → p.family ≡ f → s ≤ 18 → F ≡ all_answers f M → MergesSlots p s L M N → IsSpliced p.bits s (rest f s) F (λ u. part (bits_of s u) (all_answers f L)) (all_answers f N)
+merged_by f s p F L M N e few is merges u l a n = by (begins (take s p.bits) (bits_of s u)) refl
+  where
+    at : Address
+    at = record { family = f; bits = bits_of s u ++ a }
+
+    long : length (bits_of s u ++ a) ≡ width f
+    long = length-append (bits_of s u) a ∙ omega (arith, length-bits_of s u, n, wide f s few)
+
+    got : match_in N at ≡ match_in (cond (begins (take s p.bits) (bits_of s u)) M L) at
+    got = subst (λ (x : List Bool). match_in N at ≡ match_in (cond (begins (take s p.bits) x) M L) at) (take_at (bits_of s u) a s (length-bits_of s u)) (merges at long (sym e))
+
+    by : (c : Bool) → begins (take s p.bits) (bits_of s u) ≡ c → all_answers f N (bits_of s u ++ a) ≡ cond c (part (bits_of s u) F) (part (bits_of s u) (all_answers f L)) a
+    by true q = got ∙ (ap (λ (b : Bool). match_in (cond b M L) at) q ∙ ap (λ (g : List Bool → ℕ). g (bits_of s u ++ a)) (sym is))
+    by false q = got ∙ ap (λ (b : Bool). match_in (cond b M L) at) q
+
 -- ---- the words of a version stand
 pub words_are : (f : Family) (s : ℕ) (nodes : Space Node) (leaves : Space ℕ) (direct : List ℕ) (L : Entries) (x y : List Array) (d : ℕ) → d ≡ rest f s → IsVersion f s nodes leaves direct L x y → (v : ℕ) → v < 2 ^ s → IsWord nodes leaves (slice_index direct v) d
 words_are f s nodes leaves direct L x y d e ver v l =
@@ -152,6 +173,18 @@ module _ (f : Family) (s : ℕ) (words : List ℕ) (nodes nodes2 : Space Node) (
   module _ (gn : Gains blank nodes nb nodes2 nb2) (gl : Gains 0 leaves lb leaves2 lb2) (q : IsQuiet none made nb lb) where
     pub ready_fits : (os : List Reader) → FitsIn l os → FitsIn ready os
     ready_fits os fits = prepare_fits l os fits nodes2 leaves2 nb2.taken nb2.replaced lb2.taken lb2.replaced (stores_of stores) (gains_grow blank nodes nodes2 nb nb2 q.nodes_taken gn) (gains_grow 0 leaves leaves2 lb lb2 q.leaves_taken gl)
+
+    pub ready_cells : (since : ℕ) → KeepsCells since l ready
+    ready_cells since = grown_cells l nodes2 leaves2 since nb2.taken nb2.replaced lb2.taken lb2.replaced (stores_of stores) (gains_grow blank nodes nodes2 nb nb2 q.nodes_taken gn) (gains_grow 0 leaves leaves2 lb lb2 q.leaves_taken gl)
+
+    pub ready_from : IsSized nodes → IsSized leaves → IsReadyFrom l ready
+    ready_from sn sl = record {
+      sizes = (refl, refl, gn.order, gl.order);
+      words = refl;
+      time = refl;
+      nodes = room_taken blank nodes nodes2 nb nb2 sn q.nodes_taken gn;
+      leaves = room_taken 0 leaves leaves2 lb lb2 sl q.leaves_taken gl;
+    }
 
     quiet : (L M : Entries) → ShowsIn l L M → IsVersion f s nodes leaves words L (blocks_of nb.retired) (blocks_of lb.retired)
     quiet L M sh = quiet_version l L M sh.0 sh.1 sh.2 (ap stores_of q.no_stores) q.nodes_taken q.leaves_taken
@@ -289,6 +322,27 @@ module _ (f : Family) (s : ℕ) (words : List ℕ) (nodes nodes2 : Space Node) (
             (record { inside = λ i z. same_safe blank nodes nodes2 nb.taken nb.replaced nb.retired o.since i rn.free z; same = λ i z. rn.keeps.same i (safe_out l.nodes made o.since i z); long = rn.keeps.long })
             (record { inside = λ i z. same_safe 0 leaves leaves2 lb.taken lb.replaced lb.retired o.since i rl.free z; same = λ i z. rl.keeps.same i (safe_out l.leaves made o.since i z); long = rl.keeps.long }) r.1,
       )) fits)
+
+  pub back_cells : (since : ℕ) → KeepsCells since (seen_as f s words nodes leaves nb lb p none made) (seen_as f s words nodes2 leaves2 nb2 lb2 p stores made)
+  back_cells since t from le =
+      let l = seen_as f s words nodes leaves nb lb p none made in
+      subst (λ (z : Seen). KeepsCellsOf t l z) (sym back_is)
+      (record {
+        nodes = λ i z. (same_safe blank nodes nodes2 nb.taken nb.replaced nb.retired t i rn.free z, rn.keeps.same i (safe_out l.nodes made t i z));
+        leaves = λ i z. (same_safe 0 leaves leaves2 lb.taken lb.replaced lb.retired t i rl.free z, rl.keeps.same i (safe_out l.leaves made t i z));
+      })
+
+  pub back_before : IsAsBefore (seen_as f s words nodes leaves nb lb p none made) (seen_as f s words nodes2 leaves2 nb2 lb2 p stores made)
+  back_before =
+      let l = seen_as f s words nodes leaves nb lb p none made in
+      subst (λ (z : Seen). IsAsBefore l z) (sym back_is)
+      (record {
+        sizes = (refl, refl, rn.order, rl.order);
+        words = refl;
+        time = refl;
+        nodes = record { free = rn.free; held = rn.keeps.same; order = rn.order; fill = rn.fill; retired = refl };
+        leaves = record { free = rl.free; held = rl.keeps.same; order = rl.order; fill = rl.fill; retired = refl };
+      })
 
   pub back_kept : IsLive s words nodes leaves nb lb p none made → IsLive s words nodes2 leaves2 nb2 lb2 p stores made
   back_kept k =

@@ -9,3 +9,5 @@ pub mod Renewals
 pub mod Reasons
 pub mod Prepares
 pub mod Crowds
+pub mod Undone
+pub mod Cells

@@ -6,7 +6,7 @@ use Rattle.table_model.specs.Entries.{Entries}
 use Rattle.buddy_arena.specs.Space.{Space, IsSized}
 use Rattle.buddy_arena.specs.Places.{is_out}
 use Rattle.buddy_arena.specs.Arrays.{places_of}
-use Rattle.buddy_arena.specs.Blocks.{Held, blocks_of, AreHeldIn}
+use Rattle.buddy_arena.specs.Blocks.{Held, blocks_of, AreHeldIn, AreRetiredBy}
 use Rattle.poptrie_build.specs.Tries.{node_need, leaf_need, IsTooMuch}
 use Rattle.poptrie_build.specs.declared.filling.TrieFull.{TrieFull}
 use Rattle.poptrie_build.specs.declared.node.Node.{Node}
@@ -65,6 +65,23 @@ pub record ShowsSome (l : Seen) : Type 0 where
   pub before : Entries
   pub after : Entries
   pub shows : ShowsIn l before after
+
+-- nothing is pending: there are no stores, and no block was taken or is replaced
+pub record HasNonePending (l : Seen) : Type 0 where
+  pub no_stores : l.stores ≡ []
+  pub nodes_taken : l.nodes.taken ≡ []
+  pub nodes_replaced : l.nodes.replaced ≡ []
+  pub leaves_taken : l.leaves.taken ≡ []
+  pub leaves_replaced : l.leaves.replaced ≡ []
+
+-- What it keeps of its blocks at every moment. In each arena those of the version that it shows, the pending ones, the retired ones
+-- and the free ones share no place and fill the arena, and so do those of the version to come, the replaced ones, the retired ones
+-- and the free ones. What is retired was so at an end that is over.
+pub record KeepsBlocks (l : Seen) : Type 0 where
+  pub shows : ShowsSome l
+  pub nodes_over : AreRetiredBy l.time l.nodes.retired
+  pub leaves_over : AreRetiredBy l.time l.leaves.retired
+  pub quiet : l.pending ≡ false → HasNonePending l
 
 -- ---- as it is kept
 abbrev pub stores_of : List Stored → List Store

@@ -1,8 +1,8 @@
 -- An update that is made ready.
-use Rattle.std.specs.Prelude.{◌≡◌, ◌↔◌, ℕ, ◌^◌, ◌<◌, List, [], ◌∷◌, false, take}
+use Rattle.std.specs.Prelude.{◌≡◌, ◌↔◌, ℕ, ◌^◌, ◌<◌, List, [], ◌∷◌, Bool, false, cond, take}
 use Rattle.std.specs.List.{AllByRecursion}
 use Rattle.table_model.specs.Address.{Address, Prefix, IsAddress, contains}
-use Rattle.table_model.specs.Bits.{bits_of}
+use Rattle.table_model.specs.Bits.{bits_of, begins}
 use Rattle.table_model.specs.declared.family.Family.{Family}
 use Rattle.table_model.specs.Entries.{Entries, match_in}
 use Rattle.buddy_arena.specs.Space.{Space, IsSized}
@@ -19,6 +19,14 @@ use Rattle.poptrie_set.specs.declared.reasons.NotReady.{NotReady}
 -- the addresses that don't begin with the prefix get the same from both
 abbrev pub AgreeOutside : Prefix → Entries → Entries → Type 0
 AgreeOutside p L M = (a : Address) → IsAddress a → a.family ≡ p.family → contains p a ≡ false → match_in M a ≡ match_in L a
+
+-- whether the slot of an address, its first s bits, holds addresses of the prefix
+abbrev pub meets_slot : Prefix → ℕ → Address → Bool
+meets_slot p s a = begins (take s p.bits) (take s a.bits)
+
+-- in the slots that the prefix meets the addresses get from the last what the second table gives them, and all others what the first does
+abbrev pub MergesSlots : Prefix → ℕ → Entries → Entries → Entries → Type 0
+MergesSlots p s L M N = (a : Address) → IsAddress a → a.family ≡ p.family → match_in N a ≡ match_in (cond (meets_slot p s a) M L) a
 
 -- all addresses of the slot get the same from both
 abbrev pub SameAt : Family → ℕ → Entries → Entries → ℕ → Type 0

@@ -9,12 +9,14 @@
 #![tactic(auto)]
 
 mod crowd_laws;
+mod merged_laws;
 mod reading;
 mod reasons;
 mod rebuilding;
 mod trie_set;
 
 pub use crowd_laws::crowded_law;
+pub use merged_laws::merged_law;
 pub use reading::At;
 pub use reasons::NotReady;
 pub use trie_set::{Oldest, Pending, TrieSet};

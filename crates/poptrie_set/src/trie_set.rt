@@ -88,12 +88,14 @@ impl TrieSet {
     ghost use Rattle.fib_addr.specs.Answers.{all_answers};
     ghost use Rattle.buddy_arena.specs.Blocks.{GivesBack, late};
     ghost use Rattle.poptrie_build.specs.Tries.{node_need, leaf_need, visits_of};
-    ghost use Rattle.poptrie_set.specs.Lives.{Seen, ShowsIn, HasSizesOf, IsTokenIn, IsTooMuchFor};
+    ghost use Rattle.poptrie_set.specs.Lives.{Seen, ShowsIn, HasSizesOf, IsTokenIn, IsTooMuchFor, KeepsBlocks};
     ghost use Rattle.poptrie_set.specs.Fits.{Reader, FitsIn, IsOldestOf, until};
     ghost use Rattle.poptrie_set.specs.Past.{PastIn};
+    ghost use Rattle.poptrie_set.specs.Undone.{IsReadyFrom, IsAsBefore};
+    ghost use Rattle.poptrie_set.specs.Cells.{KeepsCells};
     ghost use Rattle.poptrie_set.specs.Reading.{ReadsOn, CanRead, LeadsIn, key_after};
     ghost use Rattle.poptrie_set.specs.First.{StartsIn, published_in};
-    ghost use Rattle.poptrie_set.specs.Prepares.{AgreeOutside, StoresJust, GaveBack, AsksRun, AsksRunOut};
+    ghost use Rattle.poptrie_set.specs.Prepares.{AgreeOutside, MergesSlots, StoresJust, GaveBack, AsksRun, AsksRunOut};
     ghost use Rattle.poptrie_set.specs.declared.trie_set.Oldest.TheVariants as Oldest;
 
     /// A trie that answers none everywhere, at time 0, with arenas of these orders.
@@ -204,6 +206,7 @@ impl TrieSet {
         ensures given { GaveBack (until oldest self.old.time) self.old self.new.nodes.space
             self.new.leaves.space }
         ensures shows { (L M : Entries) → ShowsIn self.old L M → ShowsIn self.new L M }
+        ensures cells { KeepsCells (until oldest self.old.time) self.old self.new }
         ensures fits { (os : List Reader) → IsOldestOf oldest os → FitsIn self.old os
             → FitsIn self.new os }
         ensures past { (ns ls : List ℕ) → PastIn self.old ns ls → PastIn self.new ns ls }
@@ -237,12 +240,18 @@ impl TrieSet {
         ensures shows { OnOk result ((L M : Entries) → ShowsIn self.old L L
             → R.answers region.now ≡ all_answers self.old.family M
             → AgreeOutside (prefix_as prefix.now) L M → ShowsIn self.new L M) }
+        ensures merged { OnOk result ((L M N : Entries) → ShowsIn self.old L L
+            → R.answers region.now ≡ all_answers self.old.family M
+            → MergesSlots (prefix_as prefix.now) self.old.direct_bits L M N
+            → ShowsIn self.new L N) }
         ensures changes { OnOk result ((L M : Entries) → ShowsIn self.old L L
             → R.answers region.now ≡ all_answers self.old.family M
             → AgreeOutside (prefix_as prefix.now) L M
             → StoresJust self.old.family self.old.direct_bits L M self.new.stores) }
         ensures still { OnErr result ((L M : Entries) → ShowsIn self.old L M
             → ShowsIn self.new L M) }
+        ensures ready { OnOk result (IsReadyFrom self.old self.new) }
+        ensures back { OnErr result (IsAsBefore self.old self.new) }
         ensures free { OnErr result (
             (self.new.nodes.space.free ≡ self.old.nodes.space.free)
             × (self.new.leaves.space.free ≡ self.old.leaves.space.free)) }
@@ -253,6 +262,7 @@ impl TrieSet {
         ensures refused { IfErr result (λ e. (L M : Entries) → ShowsIn self.old L L
             → R.answers region.now ≡ all_answers self.old.family M
             → AgreeOutside (prefix_as prefix.now) L M → AsksRunOut self.old L M e) }
+        ensures cells { KeepsCells 0 self.old self.new }
         ensures fits { (os : List Reader) → FitsIn self.old os → FitsIn self.new os }
     {
         let made = rebuild_or_undo(
@@ -351,6 +361,14 @@ impl TrieSet {
         self.pending
     }
 
+    /// What its blocks are. It does nothing: its clause holds at every moment.
+    pub fn arenas_law(&self)
+        ensures { KeepsBlocks self.now }
+    {
+        self.node_blocks.retired_law();
+        self.leaf_blocks.retired_law();
+    }
+
     /// Makes the next store of the pending update; false where none is left.
     pub fn store(&mut self, pending: &mut Pending) -> bool
         requires { IsTokenIn pending.old self.old }
@@ -362,6 +380,7 @@ impl TrieSet {
         ensures shape { HasSizesOf self.old self.new }
         ensures kept { (self.new.stores ≡ self.old.stores) × (self.new.time ≡ self.old.time) }
         ensures shows { (L M : Entries) → ShowsIn self.old L M → ShowsIn self.new L M }
+        ensures cells { KeepsCells 0 self.old self.new }
         ensures fits { (os : List Reader) → FitsIn self.old os → FitsIn self.new os }
         ensures past { (ns ls : List ℕ) → PastIn self.old ns ls → PastIn self.new ns ls }
     {
@@ -391,6 +410,7 @@ impl TrieSet {
         ensures shape { HasSizesOf self.old self.new }
         ensures words { self.new.words ≡ self.old.words }
         ensures shows { OnOk result ((L M : Entries) → ShowsIn self.old L M → ShowsIn self.new M M) }
+        ensures cells { OnOk result (KeepsCells 0 self.old self.new) }
         ensures fits { OnOk result ((os : List Reader) → FitsIn self.old os → FitsIn self.new os) }
         ensures past { OnOk result ((L M : Entries) (ns ls : List ℕ) → ShowsIn self.old L M
             → PastIn self.old ns ls
@@ -419,6 +439,7 @@ impl TrieSet {
         ensures nodes { self.new.nodes ≡ self.old.nodes }
         ensures leaves { self.new.leaves ≡ self.old.leaves }
         ensures shows { (L M : Entries) → ShowsIn self.old L M → ShowsIn self.new L M }
+        ensures cells { KeepsCells 0 self.old self.new }
         ensures fits { (os : List Reader) → FitsIn self.old os → FitsIn self.new os }
         ensures past { (n l : ℕ) (ns ls : List ℕ) → PastIn self.old ns ls
             → PastIn self.new (ns ++ n ∷ []) (ls ++ l ∷ []) }
@@ -458,11 +479,14 @@ impl TrieSet {
         ensures words { self.new.words ≡ self.old.words }
         ensures retired { (self.new.nodes.retired ≡ self.old.nodes.retired)
             × (self.new.leaves.retired ≡ self.old.leaves.retired) }
+        ensures before { OnOk result ((b : Seen) → IsReadyFrom b self.old
+            → IsAsBefore b self.new) }
         ensures nodes { OnOk result (GivesBack self.old.nodes.taken self.old.nodes.space
             self.new.nodes.space) }
         ensures leaves { OnOk result (GivesBack self.old.leaves.taken self.old.leaves.space
             self.new.leaves.space) }
         ensures shows { OnOk result ((L M : Entries) → ShowsIn self.old L M → ShowsIn self.new L L) }
+        ensures cells { OnOk result (KeepsCells 0 self.old self.new) }
         ensures fits { OnOk result ((os : List Reader) → FitsIn self.old os → FitsIn self.new os) }
         ensures past { (ns ls : List ℕ) → PastIn self.old ns ls → PastIn self.new ns ls }
     {

@@ -5,6 +5,10 @@ use Rattle.poptrie_set.specs.Fits.{FitsIn}
 use Rattle.poptrie_set.proofs.Steps.{at_its_cancel}
 use Rattle.poptrie_set.proofs.Lived.{seen_as, cancel_is, cancel_step, cancel_keeps}
 use Rattle.poptrie_set.proofs.Fitting.{cancel_fits}
+use Rattle.poptrie_set.specs.Cells.{KeepsCells}
+use Rattle.poptrie_set.proofs.Unwritten.{cancel_cells}
+use Rattle.poptrie_set.specs.Undone.{IsReadyFrom, IsAsBefore}
+use Rattle.poptrie_set.proofs.Taken_back.{set_back}
 use Rattle.poptrie_set.proofs.trie_set.TrieSet.cancel.Goals as goal
 
 pub invariant_of-self : goal.invariant_of-self
@@ -34,3 +38,18 @@ returns-clause-fits c = λ os f.
     let is = cancel_is c.self.inside.family c.self.inside.direct_bits c.self.inside.words.items c.self.inside.nodes c.self.inside.leaves c.self.inside.node_blocks c.self.inside.leaf_blocks c.cancel.new.self c.cancel-2.new.self c.self.inside.pending c.self.inside.stores.items c.clear.new.self.items c.self.inside.made c.cancel.new.arena c.cancel-2.new.arena c.cancel.ensures.cancelled c.cancel-2.ensures.cancelled c.clear.ensures.items z ∙ ap (λ (l : Seen). at_its_cancel l c.cancel.new.arena c.cancel-2.new.arena) c.self.view_is in
     subst (λ (l : Seen). FitsIn l os) (sym is)
     (cancel_fits c.args.self.now os f c.cancel.new.arena c.cancel-2.new.arena (subst (λ (l : Seen). l.made ≡ 0) c.self.view_is z) (subst (λ (l : Seen). GivesBack l.nodes.taken l.nodes.space c.cancel.new.arena) c.self.view_is c.cancel.ensures.gives) (subst (λ (l : Seen). GivesBack l.leaves.taken l.leaves.space c.cancel-2.new.arena) c.self.view_is c.cancel-2.ensures.gives))
+
+pub returns-clause-cells : goal.returns-clause-cells
+returns-clause-cells c =
+    let z : c.self.inside.made ≡ 0 = omega arith in
+    let is = cancel_is c.self.inside.family c.self.inside.direct_bits c.self.inside.words.items c.self.inside.nodes c.self.inside.leaves c.self.inside.node_blocks c.self.inside.leaf_blocks c.cancel.new.self c.cancel-2.new.self c.self.inside.pending c.self.inside.stores.items c.clear.new.self.items c.self.inside.made c.cancel.new.arena c.cancel-2.new.arena c.cancel.ensures.cancelled c.cancel-2.ensures.cancelled c.clear.ensures.items z ∙ ap (λ (l : Seen). at_its_cancel l c.cancel.new.arena c.cancel-2.new.arena) c.self.view_is in
+    subst (λ (l : Seen). KeepsCells 0 c.args.self.now l) (sym is)
+    (cancel_cells c.args.self.now c.cancel.new.arena c.cancel-2.new.arena 0 (subst (λ (l : Seen). l.made ≡ 0) c.self.view_is z) (subst (λ (l : Seen). GivesBack l.nodes.taken l.nodes.space c.cancel.new.arena) c.self.view_is c.cancel.ensures.gives) (subst (λ (l : Seen). GivesBack l.leaves.taken l.leaves.space c.cancel-2.new.arena) c.self.view_is c.cancel-2.ensures.gives))
+
+pub returns-clause-before : goal.returns-clause-before
+returns-clause-before c = λ b ready.
+    let z : c.self.inside.made ≡ 0 = omega arith in
+    let l = seen_as c.self.inside.family c.self.inside.direct_bits c.self.inside.words.items c.self.inside.nodes c.self.inside.leaves c.self.inside.node_blocks c.self.inside.leaf_blocks c.self.inside.pending c.self.inside.stores.items c.self.inside.made in
+    let is = cancel_is c.self.inside.family c.self.inside.direct_bits c.self.inside.words.items c.self.inside.nodes c.self.inside.leaves c.self.inside.node_blocks c.self.inside.leaf_blocks c.cancel.new.self c.cancel-2.new.self c.self.inside.pending c.self.inside.stores.items c.clear.new.self.items c.self.inside.made c.cancel.new.arena c.cancel-2.new.arena c.cancel.ensures.cancelled c.cancel-2.ensures.cancelled c.clear.ensures.items z in
+    subst (λ (x : Seen). IsAsBefore b x) (sym is)
+    (set_back l c.cancel.new.arena c.cancel-2.new.arena b c.self.invariant.0.nodes_sized c.cancel.ensures.sized c.self.invariant.0.leaves_sized c.cancel-2.ensures.sized c.cancel.ensures.gives c.cancel-2.ensures.gives (subst (λ (x : Seen). IsReadyFrom b x) (sym c.self.view_is) ready))

@@ -6,6 +6,8 @@ use Rattle.poptrie_set.specs.Past.{PastIn}
 use Rattle.poptrie_set.proofs.Steps.{at_its_end}
 use Rattle.poptrie_set.proofs.Lived.{length_stores, seen_as, end_is, end_step, end_keeps, past_step}
 use Rattle.poptrie_set.proofs.Fitting.{end_fits}
+use Rattle.poptrie_set.specs.Cells.{KeepsCells}
+use Rattle.poptrie_set.proofs.Unwritten.{end_cells}
 use Rattle.poptrie_set.proofs.trie_set.TrieSet.end.Goals as goal
 
 pub returns-then-self-len-clause-left : goal.returns-then-self-len-clause-left
@@ -52,3 +54,8 @@ pub returns-clause-past : goal.returns-clause-past
 returns-clause-past c = λ L M ns ls sh p.
     let is = end_is c.self.inside.family c.self.inside.direct_bits c.self.inside.words.items c.self.inside.nodes c.self.inside.leaves c.self.inside.node_blocks c.self.inside.leaf_blocks c.end.new.self c.end-2.new.self c.self.inside.pending c.self.inside.stores.items c.clear.new.self.items c.self.inside.made c.end.ensures c.end-2.ensures c.clear.ensures.items c.self.invariant.0.times ∙ ap at_its_end c.self.view_is in
     subst (λ (l : Seen). PastIn l (ns ++ node_need c.args.self.now.family c.args.self.now.direct_bits L ∷ []) (ls ++ leaf_need c.args.self.now.family c.args.self.now.direct_bits L ∷ [])) (sym is) (past_step c.args.self.now L M ns ls sh p)
+
+pub returns-clause-cells : goal.returns-clause-cells
+returns-clause-cells c =
+    let is = end_is c.self.inside.family c.self.inside.direct_bits c.self.inside.words.items c.self.inside.nodes c.self.inside.leaves c.self.inside.node_blocks c.self.inside.leaf_blocks c.end.new.self c.end-2.new.self c.self.inside.pending c.self.inside.stores.items c.clear.new.self.items c.self.inside.made c.end.ensures c.end-2.ensures c.clear.ensures.items c.self.invariant.0.times ∙ ap at_its_end c.self.view_is in
+    subst (λ (l : Seen). KeepsCells 0 c.args.self.now l) (sym is) (end_cells c.args.self.now 0)

@@ -1,4 +1,4 @@
-use Rattle.std.proofs.Common.{◌≡◌, [], ◌∙◌, ◌≤◌, sym, ap, subst, false}
+use Rattle.std.proofs.Common.{◌≡◌, ℕ, [], ◌∙◌, ◌≤◌, sym, ap, subst, false}
 use Rattle.std.specs.List.{AllByRecursion}
 use Rattle.poptrie_set.specs.Lives.{Seen, ShowsIn}
 use Rattle.poptrie_set.specs.Fits.{Reader, FitsIn, until}
@@ -7,6 +7,8 @@ use Rattle.poptrie_set.specs.declared.trie_set.Oldest.{Oldest}
 use Rattle.poptrie_set.proofs.Lived.{seen_as}
 use Rattle.poptrie_set.proofs.Fitting.{release_fits}
 use Rattle.poptrie_set.proofs.Quiet.{release_is, release_keeps, release_shows, release_past, since_all}
+use Rattle.poptrie_set.specs.Cells.{KeepsCells}
+use Rattle.poptrie_set.proofs.Unwritten.{release_cells}
 use Rattle.poptrie_set.proofs.trie_set.TrieSet.give_back.Goals as goal
 use Rattle.poptrie_set.proofs.trie_set.TrieSet.give_back.Goals.{in-Nobody, in-Started}
 
@@ -55,3 +57,18 @@ returns-clause-past c = λ ns ls p.
     let q = c.self.invariant.0.quiet none in
     subst (λ (l : Seen). PastIn l ns ls) (sym (release_is c.self.inside.family c.self.inside.direct_bits c.self.inside.words.items c.self.inside.nodes c.release.new.arena c.self.inside.leaves c.release-2.new.arena c.self.inside.node_blocks c.self.inside.leaf_blocks c.release.new.self c.release-2.new.self c.self.inside.pending c.self.inside.stores.items c.self.inside.made c.match-oldest.since c.release.ensures.released c.release-2.ensures.released q.nodes_taken q.nodes_replaced q.leaves_taken q.leaves_replaced))
     (release_past (seen_as c.self.inside.family c.self.inside.direct_bits c.self.inside.words.items c.self.inside.nodes c.self.inside.leaves c.self.inside.node_blocks c.self.inside.leaf_blocks c.self.inside.pending c.self.inside.stores.items c.self.inside.made) c.release.new.arena c.release-2.new.arena c.match-oldest.since ns ls (subst (λ (l : Seen). PastIn l ns ls) (sym c.self.view_is) p))
+
+pub returns-clause-cells : goal.returns-clause-cells
+returns-clause-cells c =
+    let none : c.self.inside.pending ≡ false = subst (λ (l : Seen). l.pending ≡ false) (sym c.self.view_is) c.requires in
+    let q = c.self.invariant.0.quiet none in
+    let e : until c.args.oldest c.self.inside.node_blocks.time ≡ c.match-oldest.since = elim c.match-oldest.branch [
+      | in-Nobody w ↦ ap (λ (o : Oldest). until o c.self.inside.node_blocks.time) w.in-Nobody.is ∙ sym (w.since-is ∙ w.time-since.ensures)
+      | in-Started w ↦ ap (λ (o : Oldest). until o c.self.inside.node_blocks.time) w.in-Started.is ∙ sym w.since-is
+    ] in
+    let l = seen_as c.self.inside.family c.self.inside.direct_bits c.self.inside.words.items c.self.inside.nodes c.self.inside.leaves c.self.inside.node_blocks c.self.inside.leaf_blocks c.self.inside.pending c.self.inside.stores.items c.self.inside.made in
+    let m = seen_as c.self.inside.family c.self.inside.direct_bits c.self.inside.words.items c.release.new.arena c.release-2.new.arena c.release.new.self c.release-2.new.self c.self.inside.pending c.self.inside.stores.items c.self.inside.made in
+    subst (λ (x : Seen). KeepsCells (until c.args.oldest x.time) x m) c.self.view_is
+    (subst (λ (s : ℕ). KeepsCells s l m) (sym e)
+    (subst (λ (x : Seen). KeepsCells c.match-oldest.since l x) (sym (release_is c.self.inside.family c.self.inside.direct_bits c.self.inside.words.items c.self.inside.nodes c.release.new.arena c.self.inside.leaves c.release-2.new.arena c.self.inside.node_blocks c.self.inside.leaf_blocks c.release.new.self c.release-2.new.self c.self.inside.pending c.self.inside.stores.items c.self.inside.made c.match-oldest.since c.release.ensures.released c.release-2.ensures.released q.nodes_taken q.nodes_replaced q.leaves_taken q.leaves_replaced))
+    (release_cells l c.release.new.arena c.release-2.new.arena c.match-oldest.since q.nodes_taken q.leaves_taken c.release.ensures.gives c.release-2.ensures.gives)))

@@ -8,13 +8,15 @@ use Rattle.fib_addr.specs.Answers.{all_answers}
 use Rattle.poptrie_build.specs.Tries.{rest}
 use Rattle.poptrie_set.specs.Lives.{Seen, ShowsIn, ShowsSome, stores_of}
 use Rattle.poptrie_set.specs.Fits.{FitsIn}
-use Rattle.poptrie_set.specs.Prepares.{StoresJust, AsksRun, AsksRunOut}
+use Rattle.poptrie_set.specs.Prepares.{MergesSlots, StoresJust, AsksRun, AsksRunOut}
 use Rattle.poptrie_set.proofs.Lived.{seen_as}
-use Rattle.poptrie_set.proofs.Ready.{agree_merged, words_are, Renewed, ready_is, ready_fits, ready_held, ready_asks, ready_shows, ready_some, ready_changes, ready_kept, back_shows, back_fits, back_kept, refused_reason}
+use Rattle.poptrie_set.proofs.Ready.{agree_merged, merged_by, words_are, Renewed, ready_is, ready_fits, ready_held, ready_asks, ready_shows, ready_some, ready_changes, ready_kept, back_shows, back_fits, back_kept, refused_reason, ready_cells, back_cells, ready, ready_from, back_before}
 use Rattle.poptrie_set.proofs.Prepared.{quiet_version, quiet_shows}
 use Rattle.path_copying.specs.Words.{IsWord}
 use Rattle.std.specs.Prelude.{slice_index}
 use Rattle.poptrie_set.specs.Renewals.{MeetsNotRenewal}
+use Rattle.poptrie_set.specs.Cells.{KeepsCells}
+use Rattle.poptrie_set.specs.Undone.{IsReadyFrom, IsAsBefore}
 use Rattle.poptrie_set.proofs.trie_set.TrieSet.prepare.Goals as goal
 
 pub returns-in-Ok-clause-shows : goal.returns-in-Ok-clause-shows
@@ -33,6 +35,23 @@ returns-in-Ok-clause-shows g c =
     let is = ready_is c.self.inside.family c.self.inside.direct_bits c.self.inside.words.items c.self.inside.nodes c.rebuild_or_undo-made.new.nodes c.self.inside.leaves c.rebuild_or_undo-made.new.leaves c.self.inside.node_blocks c.rebuild_or_undo-made.new.node_blocks c.self.inside.leaf_blocks c.rebuild_or_undo-made.new.leaf_blocks c.self.inside.pending c.self.inside.stores.items c.rebuild_or_undo-made.new.stores.items c.self.inside.made c.in-Ok.ensures.nodes.retired c.in-Ok.ensures.leaves.retired c.in-Ok.ensures.nodes.time q.none_made in
     subst (λ (l : Seen). ShowsIn l L M) (sym is)
     (ready_shows c.self.inside.family c.self.inside.direct_bits c.self.inside.words.items c.self.inside.nodes c.rebuild_or_undo-made.new.nodes c.self.inside.leaves c.rebuild_or_undo-made.new.leaves c.self.inside.node_blocks c.rebuild_or_undo-made.new.node_blocks c.self.inside.leaf_blocks c.rebuild_or_undo-made.new.leaf_blocks c.self.inside.pending c.self.inside.stores.items c.rebuild_or_undo-made.new.stores.items c.self.inside.made c.in-Ok.ensures.nodes c.in-Ok.ensures.leaves q d ed (g.R.Region.answers c.args.region.now) (prefix_as c.args.prefix.now).bits L M sh agree r.met r.stores r.rebuilds)
+
+pub returns-in-Ok-clause-merged : goal.returns-in-Ok-clause-merged
+returns-in-Ok-clause-merged g c =
+    λ L M N sh0 e0 merges0.
+    let none : c.self.inside.pending ≡ false = subst (λ (l : Seen). l.pending ≡ false) (sym c.self.view_is) c.requires.quiet in
+    let q = c.self.invariant.0.quiet none in
+    let d = g.R.Region.bits c.args.region.now - c.self.inside.direct_bits in
+    let wide : g.R.Region.bits c.args.region.now ≡ width c.self.inside.family = c.requires.bits ∙ ap (λ (l : Seen). width l.family) (sym c.self.view_is) in
+    let ed : d ≡ rest c.self.inside.family c.self.inside.direct_bits = ap (λ n. n - c.self.inside.direct_bits) wide in
+    let sh : ShowsIn (seen_as c.self.inside.family c.self.inside.direct_bits c.self.inside.words.items c.self.inside.nodes c.self.inside.leaves c.self.inside.node_blocks c.self.inside.leaf_blocks c.self.inside.pending c.self.inside.stores.items c.self.inside.made) L L = subst (λ (l : Seen). ShowsIn l L L) (sym c.self.view_is) sh0 in
+    let e : g.R.Region.answers c.args.region.now ≡ all_answers c.self.inside.family M = e0 ∙ ap (λ (l : Seen). all_answers l.family M) (sym c.self.view_is) in
+    let family : (prefix_as c.args.prefix.now).family ≡ c.self.inside.family = c.requires.family ∙ ap (λ (l : Seen). l.family) (sym c.self.view_is) in
+    let merges = merged_by c.self.inside.family c.self.inside.direct_bits (prefix_as c.args.prefix.now) (g.R.Region.answers c.args.region.now) L M N family c.self.invariant.0.few e (subst (λ (l : Seen). MergesSlots (prefix_as c.args.prefix.now) l.direct_bits L M N) (sym c.self.view_is) merges0) in
+    let r = subst (λ (w : List ℕ). Renewed c.self.inside.nodes c.rebuild_or_undo-made.new.nodes c.self.inside.node_blocks c.rebuild_or_undo-made.new.node_blocks c.self.inside.leaves c.rebuild_or_undo-made.new.leaves c.self.inside.leaf_blocks c.rebuild_or_undo-made.new.leaf_blocks w c.rebuild_or_undo-made.new.stores.items (prefix_as c.args.prefix.now).bits c.self.inside.direct_bits d (g.R.Region.answers c.args.region.now)) c.deref.ensures.value (record { stores = c.in-Ok.ensures.stores; rebuilds = c.in-Ok.ensures.rebuilds; aside = c.in-Ok.ensures.aside; kept = c.in-Ok.ensures.kept; met = c.in-Ok.ensures.met }) in
+    let is = ready_is c.self.inside.family c.self.inside.direct_bits c.self.inside.words.items c.self.inside.nodes c.rebuild_or_undo-made.new.nodes c.self.inside.leaves c.rebuild_or_undo-made.new.leaves c.self.inside.node_blocks c.rebuild_or_undo-made.new.node_blocks c.self.inside.leaf_blocks c.rebuild_or_undo-made.new.leaf_blocks c.self.inside.pending c.self.inside.stores.items c.rebuild_or_undo-made.new.stores.items c.self.inside.made c.in-Ok.ensures.nodes.retired c.in-Ok.ensures.leaves.retired c.in-Ok.ensures.nodes.time q.none_made in
+    subst (λ (l : Seen). ShowsIn l L N) (sym is)
+    (ready_shows c.self.inside.family c.self.inside.direct_bits c.self.inside.words.items c.self.inside.nodes c.rebuild_or_undo-made.new.nodes c.self.inside.leaves c.rebuild_or_undo-made.new.leaves c.self.inside.node_blocks c.rebuild_or_undo-made.new.node_blocks c.self.inside.leaf_blocks c.rebuild_or_undo-made.new.leaf_blocks c.self.inside.pending c.self.inside.stores.items c.rebuild_or_undo-made.new.stores.items c.self.inside.made c.in-Ok.ensures.nodes c.in-Ok.ensures.leaves q d ed (g.R.Region.answers c.args.region.now) (prefix_as c.args.prefix.now).bits L N sh merges r.met r.stores r.rebuilds)
 
 pub returns-in-Ok-clause-changes : goal.returns-in-Ok-clause-changes
 returns-in-Ok-clause-changes g c =
@@ -147,3 +166,37 @@ returns-in-Err-clause-refused g c =
     let out = subst (λ (w : List ℕ). MeetsNotRenewal c.self.inside.nodes c.self.inside.leaves w (prefix_as c.args.prefix.now).bits c.self.inside.direct_bits d (g.R.Region.answers c.args.region.now) c.in-Err.refusal) c.deref.ensures.value c.in-Err.ensures.refused in
     subst (λ (l : Seen). AsksRunOut l L M c.reason.result) c.self.view_is
     (refused_reason c.self.inside.family c.self.inside.direct_bits c.self.inside.words.items c.self.inside.nodes c.self.inside.leaves L M (blocks_of c.self.inside.node_blocks.retired) (blocks_of c.self.inside.leaf_blocks.retired) d c.rebuild_or_undo-made.new.nodes.order c.rebuild_or_undo-made.new.leaves.order (g.R.Region.answers c.args.region.now) (prefix_as c.args.prefix.now).bits c.reason.result c.in-Err.refusal ver ed e agree c.in-Err.ensures.nodes_back.0.order c.in-Err.ensures.leaves_back.0.order c.reason.ensures out)
+
+pub returns-in-Ok-clause-cells : goal.returns-in-Ok-clause-cells
+returns-in-Ok-clause-cells g c =
+    let none : c.self.inside.pending ≡ false = subst (λ (l : Seen). l.pending ≡ false) (sym c.self.view_is) c.requires.quiet in
+    let q = c.self.invariant.0.quiet none in
+    let is = ready_is c.self.inside.family c.self.inside.direct_bits c.self.inside.words.items c.self.inside.nodes c.rebuild_or_undo-made.new.nodes c.self.inside.leaves c.rebuild_or_undo-made.new.leaves c.self.inside.node_blocks c.rebuild_or_undo-made.new.node_blocks c.self.inside.leaf_blocks c.rebuild_or_undo-made.new.leaf_blocks c.self.inside.pending c.self.inside.stores.items c.rebuild_or_undo-made.new.stores.items c.self.inside.made c.in-Ok.ensures.nodes.retired c.in-Ok.ensures.leaves.retired c.in-Ok.ensures.nodes.time q.none_made in
+    subst (λ (l : Seen). KeepsCells 0 c.args.self.now l) (sym is)
+    (subst (λ (x : Seen). KeepsCells 0 x (ready c.self.inside.family c.self.inside.direct_bits c.self.inside.words.items c.self.inside.nodes c.rebuild_or_undo-made.new.nodes c.self.inside.leaves c.rebuild_or_undo-made.new.leaves c.self.inside.node_blocks c.rebuild_or_undo-made.new.node_blocks c.self.inside.leaf_blocks c.rebuild_or_undo-made.new.leaf_blocks c.self.inside.pending c.self.inside.stores.items c.rebuild_or_undo-made.new.stores.items c.self.inside.made)) c.self.view_is
+    (ready_cells c.self.inside.family c.self.inside.direct_bits c.self.inside.words.items c.self.inside.nodes c.rebuild_or_undo-made.new.nodes c.self.inside.leaves c.rebuild_or_undo-made.new.leaves c.self.inside.node_blocks c.rebuild_or_undo-made.new.node_blocks c.self.inside.leaf_blocks c.rebuild_or_undo-made.new.leaf_blocks c.self.inside.pending c.self.inside.stores.items c.rebuild_or_undo-made.new.stores.items c.self.inside.made c.in-Ok.ensures.nodes c.in-Ok.ensures.leaves q 0))
+
+pub returns-in-Err-clause-cells : goal.returns-in-Err-clause-cells
+returns-in-Err-clause-cells g c =
+    let none : c.self.inside.pending ≡ false = subst (λ (l : Seen). l.pending ≡ false) (sym c.self.view_is) c.requires.quiet in
+    let q = c.self.invariant.0.quiet none in
+    let m = seen_as c.self.inside.family c.self.inside.direct_bits c.self.inside.words.items c.rebuild_or_undo-made.new.nodes c.rebuild_or_undo-made.new.leaves c.rebuild_or_undo-made.new.node_blocks c.rebuild_or_undo-made.new.leaf_blocks c.self.inside.pending c.rebuild_or_undo-made.new.stores.items c.self.inside.made in
+    subst (λ (x : Seen). KeepsCells 0 x m) c.self.view_is
+    (back_cells c.self.inside.family c.self.inside.direct_bits c.self.inside.words.items c.self.inside.nodes c.rebuild_or_undo-made.new.nodes c.self.inside.leaves c.rebuild_or_undo-made.new.leaves c.self.inside.node_blocks c.rebuild_or_undo-made.new.node_blocks c.self.inside.leaf_blocks c.rebuild_or_undo-made.new.leaf_blocks c.self.inside.pending c.self.inside.stores.items c.rebuild_or_undo-made.new.stores.items c.self.inside.made c.in-Err.ensures.nodes_back.0 c.in-Err.ensures.leaves_back.0 c.in-Err.ensures.nodes_back.1 c.in-Err.ensures.leaves_back.1 (c.in-Err.ensures.no_stores ∙ sym q.no_stores) 0)
+
+pub returns-in-Ok-clause-ready : goal.returns-in-Ok-clause-ready
+returns-in-Ok-clause-ready g c =
+    let none : c.self.inside.pending ≡ false = subst (λ (l : Seen). l.pending ≡ false) (sym c.self.view_is) c.requires.quiet in
+    let q = c.self.invariant.0.quiet none in
+    let is = ready_is c.self.inside.family c.self.inside.direct_bits c.self.inside.words.items c.self.inside.nodes c.rebuild_or_undo-made.new.nodes c.self.inside.leaves c.rebuild_or_undo-made.new.leaves c.self.inside.node_blocks c.rebuild_or_undo-made.new.node_blocks c.self.inside.leaf_blocks c.rebuild_or_undo-made.new.leaf_blocks c.self.inside.pending c.self.inside.stores.items c.rebuild_or_undo-made.new.stores.items c.self.inside.made c.in-Ok.ensures.nodes.retired c.in-Ok.ensures.leaves.retired c.in-Ok.ensures.nodes.time q.none_made in
+    subst (λ (l : Seen). IsReadyFrom c.args.self.now l) (sym is)
+    (subst (λ (x : Seen). IsReadyFrom x (ready c.self.inside.family c.self.inside.direct_bits c.self.inside.words.items c.self.inside.nodes c.rebuild_or_undo-made.new.nodes c.self.inside.leaves c.rebuild_or_undo-made.new.leaves c.self.inside.node_blocks c.rebuild_or_undo-made.new.node_blocks c.self.inside.leaf_blocks c.rebuild_or_undo-made.new.leaf_blocks c.self.inside.pending c.self.inside.stores.items c.rebuild_or_undo-made.new.stores.items c.self.inside.made)) c.self.view_is
+    (ready_from c.self.inside.family c.self.inside.direct_bits c.self.inside.words.items c.self.inside.nodes c.rebuild_or_undo-made.new.nodes c.self.inside.leaves c.rebuild_or_undo-made.new.leaves c.self.inside.node_blocks c.rebuild_or_undo-made.new.node_blocks c.self.inside.leaf_blocks c.rebuild_or_undo-made.new.leaf_blocks c.self.inside.pending c.self.inside.stores.items c.rebuild_or_undo-made.new.stores.items c.self.inside.made c.in-Ok.ensures.nodes c.in-Ok.ensures.leaves q c.self.invariant.0.nodes_sized c.self.invariant.0.leaves_sized))
+
+pub returns-in-Err-clause-back : goal.returns-in-Err-clause-back
+returns-in-Err-clause-back g c =
+    let none : c.self.inside.pending ≡ false = subst (λ (l : Seen). l.pending ≡ false) (sym c.self.view_is) c.requires.quiet in
+    let q = c.self.invariant.0.quiet none in
+    let m = seen_as c.self.inside.family c.self.inside.direct_bits c.self.inside.words.items c.rebuild_or_undo-made.new.nodes c.rebuild_or_undo-made.new.leaves c.rebuild_or_undo-made.new.node_blocks c.rebuild_or_undo-made.new.leaf_blocks c.self.inside.pending c.rebuild_or_undo-made.new.stores.items c.self.inside.made in
+    subst (λ (x : Seen). IsAsBefore x m) c.self.view_is
+    (back_before c.self.inside.family c.self.inside.direct_bits c.self.inside.words.items c.self.inside.nodes c.rebuild_or_undo-made.new.nodes c.self.inside.leaves c.rebuild_or_undo-made.new.leaves c.self.inside.node_blocks c.rebuild_or_undo-made.new.node_blocks c.self.inside.leaf_blocks c.rebuild_or_undo-made.new.leaf_blocks c.self.inside.pending c.self.inside.stores.items c.rebuild_or_undo-made.new.stores.items c.self.inside.made c.in-Err.ensures.nodes_back.0 c.in-Err.ensures.leaves_back.0 c.in-Err.ensures.nodes_back.1 c.in-Err.ensures.leaves_back.1 (c.in-Err.ensures.no_stores ∙ sym q.no_stores))

@@ -2,7 +2,9 @@ use Rattle.std.proofs.Common.{rules, ◌≡◌, ◌<◌, ◌≤◌, ◌+◌, suc
 use Rattle.poptrie_set.specs.Lives.{Seen, ShowsIn, stores_of}
 use Rattle.poptrie_set.specs.Fits.{FitsIn}
 use Rattle.path_copying.specs.declared.slots.Store.{Store as Stored}
-use Rattle.poptrie_set.proofs.Lived.{length_stores, store_at, store_step, store_keeps, store_keeps_fits, seen_as}
+use Rattle.poptrie_set.proofs.Lived.{length_stores, store_at, store_step, store_keeps, store_keeps_fits, seen_as, after_store}
+use Rattle.poptrie_set.specs.Cells.{KeepsCells}
+use Rattle.poptrie_set.proofs.Unwritten.{store_cells, still_cells}
 use Rattle.poptrie_set.proofs.trie_set.TrieSet.store.Goals as goal
 
 pub returns-then-self-len-clause-none : goal.returns-then-self-len-clause-none
@@ -45,3 +47,12 @@ returns-clause-shows c = λ L M sh.
 pub returns-clause-fits : goal.returns-clause-fits
 returns-clause-fits c = λ os f.
     store_keeps_fits (seen_as c.self.inside.family c.self.inside.direct_bits c.self.inside.words.items c.self.inside.nodes c.self.inside.leaves c.self.inside.node_blocks c.self.inside.leaf_blocks c.self.inside.pending c.self.inside.stores.items c.self.inside.made) c.index-next.result.now.slot c.index-next.result.now.word os (subst (λ (q : Seen). FitsIn q os) (sym c.self.view_is) f)
+
+pub returns-then-self-len-clause-cells : goal.returns-then-self-len-clause-cells
+returns-then-self-len-clause-cells c = still_cells c.args.self.now 0
+
+pub returns-clause-cells : goal.returns-clause-cells
+returns-clause-cells c =
+    let l = seen_as c.self.inside.family c.self.inside.direct_bits c.self.inside.words.items c.self.inside.nodes c.self.inside.leaves c.self.inside.node_blocks c.self.inside.leaf_blocks c.self.inside.pending c.self.inside.stores.items c.self.inside.made in
+    let m = after_store l c.index-next.result.now.slot c.index-next.result.now.word in
+    subst (λ (x : Seen). KeepsCells 0 x m) c.self.view_is (store_cells l 0 c.index-next.result.now.slot c.index-next.result.now.word)
