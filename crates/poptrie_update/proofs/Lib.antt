@@ -2,6 +2,10 @@ pub mod Pair
 pub mod Short
 pub mod Rebuilt
 pub mod Made
+pub mod Outside
+pub mod Tables
+pub mod Unreached
+pub mod As_before
 pub mod Opened
 pub mod Going
 pub mod First

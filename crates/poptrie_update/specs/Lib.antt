@@ -3,5 +3,8 @@ pub mod Pendings
 pub mod Fits
 pub mod Reads
 pub mod Prepares
+pub mod Outs
+pub mod Undone
+pub mod Cells
 pub mod Cursors
 pub mod Stages

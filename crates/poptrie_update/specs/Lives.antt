@@ -1,7 +1,8 @@
 -- What a live trie is seen as, and what it shows.
-use Rattle.std.specs.Prelude.{◌≡◌, ℕ, ◌-◌, ◌≤◌, List, [], Bool, true, false, cond, nat_eq, nat_le, length}
+use Rattle.std.specs.Prelude.{◌≡◌, ℕ, ◌-◌, ◌≤◌, List, [], Bool, true, false, cond, nat_eq, nat_le, length, map}
 use Rattle.table_model.specs.Entries.{Entries}
-use Rattle.poptrie_set.specs.Lives.{Seen, ShowsIn, HasSizesOf}
+use Rattle.poptrie_build.specs.Tries.{node_need, leaf_need}
+use Rattle.poptrie_set.specs.Lives.{Seen, ShowsIn, HasSizesOf, KeepsBlocks}
 use Rattle.poptrie_set.specs.Past.{PastIn}
 use Rattle.poptrie_update.specs.declared.live.Other.{Other}
 use Rattle.poptrie_update.specs.declared.live.Other.TheVariants as other
@@ -98,6 +99,11 @@ Shows l L M = ShowsBy l.state l.selected l.other L M
 abbrev pub Past : Living → List ℕ → List ℕ → Type 0
 Past l node_needs leaf_needs = PastIn l.selected node_needs leaf_needs
 
+-- these are the tables before each end so far, the first end's first: what is retired at an end takes no more places than the table before
+-- it needed
+abbrev pub PastTables : Living → List Entries → Type 0
+PastTables l Ls = Past l (map (λ (L : Entries). node_need l.selected.family l.selected.direct_bits L) Ls) (map (λ (L : Entries). leaf_need l.selected.family l.selected.direct_bits L) Ls)
+
 -- ---- as it is kept
 -- nothing is retired in a set
 abbrev pub HasNoneRetired : Seen → Type 0
@@ -119,3 +125,10 @@ pub record IsSetPair (s o : Seen) (state : Other) (number : ℕ) : Type 0 where
   pub few : number ≤ 1
   pub nodes_small : s.nodes.space.order ≤ 26
   pub leaves_small : s.leaves.space.order ≤ 26
+
+-- What it keeps of its blocks at every moment: in both sets all that a set keeps, whatever the other one holds. The other set is free,
+-- or retired whole at an end that is over, or the pending update's, or the one that a stored selector replaced.
+pub record KeepsBothSets (l : Living) : Type 0 where
+  pub selected : KeepsBlocks l.selected
+  pub other : KeepsBlocks l.other
+  pub pair : IsSetPair l.selected l.other l.state l.number

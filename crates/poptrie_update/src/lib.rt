@@ -14,7 +14,7 @@ mod live;
 mod pending;
 
 pub use cursors::{Cursors, CursorsFull, NotOpen};
-pub use laws::{nobody_law, prepare_law, step_law};
+pub use laws::{nobody_law, past_law, prepare_law, step_law};
 pub use live::{At, Live};
 pub use pending::{NotReady, Pending};
 pub use poptrie_set::Oldest;

@@ -87,7 +87,7 @@ fn places(order: u8) -> u64
 }
 
 impl Live {
-    ghost use Rattle.std.specs.Prelude.{◌≡◌, ℕ, List, [], ◌∷◌, ◌++◌, suc, ◌+◌, ◌*◌, ◌≤◌, ◌<◌, Bool, true, false, length, IfOk, OnOk, OnErr, IfErr};
+    ghost use Rattle.std.specs.Prelude.{◌≡◌, ℕ, List, [], ◌∷◌, ◌++◌, suc, ◌+◌, ◌*◌, ◌≤◌, ◌<◌, Bool, true, false, cond, length, IfOk, OnOk, OnErr, IfErr};
     ghost use Rattle.table_model.specs.Width.{width};
     ghost use Rattle.fib_addr.specs.Views.{addr_as, prefix_as};
     ghost use Rattle.table_model.specs.Entries.{Entries, match_in};
@@ -96,12 +96,15 @@ impl Live {
     ghost use Rattle.poptrie_set.specs.Lives.{IsTooMuchFor};
     ghost use Rattle.poptrie_set.specs.Fits.{until};
     ghost use Rattle.poptrie_set.specs.Reading.{ReadsOn, CanRead, key_after};
-    ghost use Rattle.poptrie_set.specs.Prepares.{AgreeOutside, GaveBack, AsksRunOut};
+    ghost use Rattle.poptrie_set.specs.Prepares.{AgreeOutside, MergesSlots, GaveBack, AsksRunOut};
     ghost use Rattle.poptrie_set.specs.Lives.{ShowsIn};
-    ghost use Rattle.poptrie_update.specs.Lives.{Living, Shows, HasShapeOf, is_pending, stores_left, made_of, numbered_set, Past, IsFree, KeepsStores, freed, retired_at_end};
-    ghost use Rattle.poptrie_update.specs.Pendings.{IsTokenOf};
+    ghost use Rattle.poptrie_update.specs.Lives.{Living, Shows, HasShapeOf, is_pending, stores_left, made_of, numbered_set, Past, IsFree, KeepsStores, freed, retired_at_end, KeepsBothSets, IsSetPair};
+    ghost use Rattle.poptrie_update.specs.Pendings.{IsTokenOf, selects};
     ghost use Rattle.poptrie_update.specs.Fits.{Open, Fits, IsOldest};
     ghost use Rattle.poptrie_update.specs.Reads.{Starts, published_entries, Leads};
+    ghost use Rattle.poptrie_update.specs.Outs.{OutJust};
+    ghost use Rattle.poptrie_update.specs.Undone.{IsGivenBack, IsReadyAfter, IsSameOther, IsAsItWas};
+    ghost use Rattle.poptrie_update.specs.Cells.{KeepsAllReached};
     ghost use Rattle.poptrie_update.specs.Prepares.{IsAtRest, NoneRetired, StoresChanges, IsMade, IsNotReady, IsUndone, IsCancelled, IsBeside, IsNotBeside, IsShort};
     ghost use Rattle.poptrie_set.specs.declared.trie_set.Oldest.TheVariants as Oldest;
     ghost use Rattle.poptrie_update.specs.declared.live.Other.TheVariants as other;
@@ -199,8 +202,10 @@ impl Live {
         ensures rest { IsAtRest self.old }
         ensures given { GaveBack (until oldest self.old.selected.time) self.old.selected
             self.new.selected.nodes.space self.new.selected.leaves.space }
+        ensures back { IsGivenBack (until oldest self.old.selected.time) self.old self.new }
         ensures all { oldest ≡ Oldest.Nobody → NoneRetired self.new }
         ensures shows { (L M : Entries) → Shows self.old L M → Shows self.new L M }
+        ensures cells { KeepsAllReached (until oldest self.old.selected.time) self.old self.new }
         ensures fits { (os : List Open) → IsOldest oldest os → Fits self.old os
             → Fits self.new os }
         ensures past { (ns ls : List ℕ) → Past self.old ns ls → Past self.new ns ls }
@@ -243,9 +248,15 @@ impl Live {
         ensures token { IfOk result (λ p. IsTokenOf p self.new × (made_of self.new ≡ 0)) }
         ensures quiet { OnErr result (is_pending self.new ≡ false) }
         ensures all { oldest ≡ Oldest.Nobody → NoneRetired self.new }
+        ensures out { oldest ≡ Oldest.Nobody → (L M : Entries) → Shows self.new L M
+            → OutJust self.new L M }
         ensures shows { OnOk result ((L M : Entries) → Shows self.old L L
             → R.answers region.now ≡ all_answers self.old.selected.family M
             → AgreeOutside (prefix_as prefix.now) L M → Shows self.new L M) }
+        ensures merged { IfOk result (λ p. (L M N : Entries) → Shows self.old L L
+            → R.answers region.now ≡ all_answers self.old.selected.family M
+            → MergesSlots (prefix_as prefix.now) self.old.selected.direct_bits L M N
+            → Shows self.new L (cond (selects p) M N)) }
         ensures changes { IfOk result (λ p. (L M : Entries) → Shows self.old L L
             → R.answers region.now ≡ all_answers self.old.selected.family M
             → AgreeOutside (prefix_as prefix.now) L M → StoresChanges p self.new L M) }
@@ -256,10 +267,17 @@ impl Live {
         ensures refused { IfErr result (λ e. (L M : Entries) → Shows self.old L L
             → R.answers region.now ≡ all_answers self.old.selected.family M
             → AgreeOutside (prefix_as prefix.now) L M → IsNotReady oldest e self.old L M) }
+        ensures ready { OnOk result ((b : Living)
+            × IsGivenBack (until oldest self.old.selected.time) self.old b
+            × IsReadyAfter b self.new) }
+        ensures back { OnErr result ((b : Living)
+            × IsGivenBack (until oldest self.old.selected.time) self.old b
+            × IsAsItWas b self.new) }
         ensures undone { OnErr result (IsUndone (until oldest self.old.selected.time) self.old
             self.new) }
         ensures still { OnErr result ((L M : Entries) → Shows self.old L M
             → Shows self.new L M) }
+        ensures cells { KeepsAllReached (until oldest self.old.selected.time) self.old self.new }
         ensures fits { (os : List Open) → IsOldest oldest os → Fits self.old os
             → Fits self.new os }
         ensures past { (ns ls : List ℕ) → Past self.old ns ls → Past self.new ns ls }
@@ -284,6 +302,7 @@ impl Live {
         requires quiet { is_pending self.old ≡ false }
         requires time { self.old.selected.time < 18446744073709551615 }
         requires all { oldest ≡ Oldest.Nobody → NoneRetired self.old }
+        ensures pair { IsSetPair self.new.selected self.new.other self.new.state self.new.number }
         ensures shape { HasShapeOf self.old self.new }
         ensures time { self.new.selected.time ≡ self.old.selected.time }
         ensures retired { (self.new.selected.nodes.retired ≡ self.old.selected.nodes.retired)
@@ -294,6 +313,10 @@ impl Live {
         ensures shows { OnOk result ((L M : Entries) → Shows self.old L L
             → R.answers region.now ≡ all_answers self.old.selected.family M
             → AgreeOutside (prefix_as prefix.now) L M → Shows self.new L M) }
+        ensures merged { IfOk result (λ p. (L M N : Entries) → Shows self.old L L
+            → R.answers region.now ≡ all_answers self.old.selected.family M
+            → MergesSlots (prefix_as prefix.now) self.old.selected.direct_bits L M N
+            → Shows self.new L (cond (selects p) M N)) }
         ensures changes { IfOk result (λ p. (L M : Entries) → Shows self.old L L
             → R.answers region.now ≡ all_answers self.old.selected.family M
             → AgreeOutside (prefix_as prefix.now) L M → StoresChanges p self.new L M) }
@@ -304,12 +327,15 @@ impl Live {
         ensures refused { IfErr result (λ e. (L M : Entries) → Shows self.old L L
             → R.answers region.now ≡ all_answers self.old.selected.family M
             → AgreeOutside (prefix_as prefix.now) L M → IsNotBeside oldest e self.old L M) }
+        ensures ready { OnOk result (IsReadyAfter self.old self.new) }
+        ensures back { OnErr result (IsAsItWas self.old self.new) }
         ensures undone { OnErr result ((self.new.state ≡ self.old.state)
             × (self.new.selected.words ≡ self.old.selected.words)
             × (self.new.selected.nodes.space.free ≡ self.old.selected.nodes.space.free)
             × (self.new.selected.leaves.space.free ≡ self.old.selected.leaves.space.free)) }
         ensures still { OnErr result ((L M : Entries) → Shows self.old L M
             → Shows self.new L M) }
+        ensures cells { KeepsAllReached 0 self.old self.new }
         ensures fits { (os : List Open) → Fits self.old os → Fits self.new os }
     {
         match self.selected.prepare(region, prefix) {
@@ -335,6 +361,7 @@ impl Live {
         requires bits { R.bits region.now ≡ width self.old.selected.family }
         requires quiet { is_pending self.old ≡ false }
         requires all { oldest ≡ Oldest.Nobody → NoneRetired self.old }
+        ensures pair { IsSetPair self.new.selected self.new.other self.new.state self.new.number }
         ensures selected { self.new.selected ≡ self.old.selected }
         ensures token { IfOk result (λ p. p.stores ≡ stores.Selector false) }
         ensures free { OnOk result (IsFree self.old × (self.new.state ≡ other.Built)) }
@@ -347,15 +374,19 @@ impl Live {
             → R.answers region.now ≡ all_answers self.old.selected.family M
             → AsksRunOut self.old.selected L M why → IsNotBeside oldest e self.old L M) }
         ensures still { OnErr result (self.new.state ≡ self.old.state) }
+        ensures number { self.new.number ≡ self.old.number }
+        ensures other { OnErr result (IsSameOther self.old.state self.old.other self.new.other) }
+        ensures cells { KeepsAllReached 0 self.old self.new }
         ensures fits { (os : List Open) → Fits self.old os → Fits self.new os }
     {
+        let state = self.state;
         let (arena, refused) = match why {
             NotBeside::Memory => return Err(NotReady::Memory),
             NotBeside::TooMuch(full) => return Err(NotReady::TooMuch(full)),
             NotBeside::NodesOut(full) => (0, full),
             NotBeside::LeavesOut(full) => (1, full),
         };
-        if let (Other::Retired { end }, Oldest::Started { cursor, since }) = (self.state, oldest) {
+        if let (Other::Retired { end }, Oldest::Started { cursor, since }) = (state, oldest) {
             return Err(NotReady::Pinned {
                 need: places(refused.order),
                 cursor,
@@ -438,6 +469,14 @@ impl Live {
         }
     }
 
+    /// What its blocks are. It does nothing: its clause holds at every moment.
+    pub fn arenas_law(&self)
+        ensures { KeepsBothSets self.now }
+    {
+        self.selected.arenas_law();
+        self.other.arenas_law();
+    }
+
     /// Makes the next store of the pending update; false where none is left.
     pub fn store(&mut self, pending: &mut Pending) -> bool
         requires { IsTokenOf pending.old self.old }
@@ -450,6 +489,7 @@ impl Live {
         ensures shape { HasShapeOf self.old self.new }
         ensures time { self.new.selected.time ≡ self.old.selected.time }
         ensures shows { (L M : Entries) → Shows self.old L M → Shows self.new L M }
+        ensures cells { KeepsAllReached 0 self.old self.new }
         ensures fits { (os : List Open) → Fits self.old os → Fits self.new os }
         ensures past { (ns ls : List ℕ) → Past self.old ns ls → Past self.new ns ls }
     {
@@ -485,6 +525,7 @@ impl Live {
             ≡ retired_at_end (suc self.old.selected.time) self.old.state) }
         ensures shape { HasShapeOf self.old self.new }
         ensures shows { OnOk result ((L M : Entries) → Shows self.old L M → Shows self.new M M) }
+        ensures cells { OnOk result (KeepsAllReached 0 self.old self.new) }
         ensures fits { OnOk result ((os : List Open) → Fits self.old os → Fits self.new os) }
         ensures past { OnOk result ((L M : Entries) (ns ls : List ℕ) → Shows self.old L M
             → Past self.old ns ls
@@ -533,7 +574,10 @@ impl Live {
         ensures time { self.new.selected.time ≡ self.old.selected.time }
         ensures shape { HasShapeOf self.old self.new }
         ensures undone { OnOk result (IsCancelled self.old self.new) }
+        ensures before { OnOk result ((b : Living) → IsReadyAfter b self.old
+            → IsAsItWas b self.new) }
         ensures shows { OnOk result ((L M : Entries) → Shows self.old L M → Shows self.new L L) }
+        ensures cells { OnOk result (KeepsAllReached 0 self.old self.new) }
         ensures fits { OnOk result ((os : List Open) → Fits self.old os → Fits self.new os) }
         ensures past { (ns ls : List ℕ) → Past self.old ns ls → Past self.new ns ls }
     {

@@ -1,16 +1,21 @@
-use Rattle.std.proofs.Common.{◌≡◌, ◌∙◌, false, sym, ap, subst}
+use Rattle.std.proofs.Common.{◌≡◌, ◌∙◌, false, cond, sym, ap, subst}
 use Rattle.table_model.specs.declared.family.Family.{Family}
 use Rattle.fib_addr.specs.Answers.{all_answers}
 use Rattle.poptrie_set.specs.Lives.{Seen, ShowsIn}
-use Rattle.poptrie_set.proofs.Ready.{err_map, if_err_map, both_ok}
+use Rattle.poptrie_set.proofs.Ready.{err_map, if_err_map, both_ok, ok_map}
 use Rattle.poptrie_update.specs.Lives.{Living, Shows, ShowsBy, is_selecting, is_pending, made_of}
 use Rattle.poptrie_update.specs.Fits.{Fits}
-use Rattle.poptrie_update.specs.Pendings.{IsTokenOf}
+use Rattle.poptrie_update.specs.Pendings.{IsTokenOf, is_of_selector}
 use Rattle.poptrie_update.specs.Prepares.{IsBeside, IsNotBeside, IsShort}
 use Rattle.poptrie_update.specs.declared.live.Other.{Other}
 use Rattle.poptrie_update.specs.declared.pending.Stores.{Stores}
 use Rattle.poptrie_update.proofs.Pair.{fits_selected, quiet_words, words_shown, shown_words}
 use Rattle.poptrie_update.proofs.Rebuilt.{if_ok_both, if_ok_all, selector_token, run_out_moved, short_moved, not_beside_moved, back_sizes}
+use Rattle.poptrie_update.specs.Cells.{KeepsAllReached}
+use Rattle.poptrie_update.proofs.Unreached.{reached_selected, reached_both, pair_of}
+use Rattle.poptrie_update.specs.Undone.{IsReadyAfter, IsAsItWas}
+use Rattle.poptrie_update.proofs.As_before.{words_ready, selector_ready, err_both_on}
+use Rattle.poptrie_set.specs.Undone.{IsAsBefore}
 use Rattle.poptrie_update.proofs.live.Live.make_ready.Goals as goal
 
 pub returns-in-Ok-clause-fits : goal.returns-in-Ok-clause-fits
@@ -68,3 +73,42 @@ returns-in-Err-clause-still g c =
 
 pub returns-in-Err-clause-fits : goal.returns-in-Err-clause-fits
 returns-in-Err-clause-fits g c = λ os f. c.rebuild.ensures.fits os (fits_selected c.self.inside.selected c.prepare.new.self c.self.inside.other c.self.inside.state c.self.inside.number c.prepare.ensures.fits os (subst (λ (l : Living). Fits l os) (sym c.self.view_is) f))
+
+pub returns-in-Ok-clause-cells : goal.returns-in-Ok-clause-cells
+returns-in-Ok-clause-cells g c = subst (λ (l : Living). KeepsAllReached 0 l (pair_of c.prepare.new.self c.self.inside.other c.self.inside.state c.self.inside.number)) c.self.view_is (reached_selected 0 c.self.inside.selected c.prepare.new.self c.self.inside.other c.self.inside.state c.self.inside.number c.prepare.ensures.cells)
+
+pub returns-in-Err-clause-cells : goal.returns-in-Err-clause-cells
+returns-in-Err-clause-cells g c =
+    let m = pair_of c.prepare.new.self c.self.inside.other c.self.inside.state c.self.inside.number in
+    subst (λ (l : Living). KeepsAllReached 0 l c.rebuild.new.self) c.self.view_is
+    (reached_both 0 (pair_of c.self.inside.selected c.self.inside.other c.self.inside.state c.self.inside.number) m c.rebuild.new.self c.prepare.ensures.kept.1 (reached_selected 0 c.self.inside.selected c.prepare.new.self c.self.inside.other c.self.inside.state c.self.inside.number c.prepare.ensures.cells) c.rebuild.ensures.cells)
+
+pub returns-in-Ok-clause-ready : goal.returns-in-Ok-clause-ready
+returns-in-Ok-clause-ready g c =
+    let words : is_selecting c.self.inside.state ≡ false = (quiet_words c.self.inside.state c.self.inside.selected.pending (ap is_pending c.self.view_is ∙ c.requires.quiet)).0 in
+    subst (λ (l : Living). IsReadyAfter l (pair_of c.prepare.new.self c.self.inside.other c.self.inside.state c.self.inside.number)) c.self.view_is
+    (words_ready c.self.inside.state c.self.inside.selected c.prepare.new.self c.self.inside.other c.self.inside.number words c.in-Ok.ensures.ready)
+
+pub returns-in-Err-clause-ready : goal.returns-in-Err-clause-ready
+returns-in-Err-clause-ready g c =
+    let b = pair_of c.self.inside.selected c.self.inside.other c.self.inside.state c.self.inside.number in
+    ok_map c.rebuild.result c.rebuild.ensures.free
+    (λ a. subst (λ (l : Living). IsReadyAfter l c.rebuild.new.self) c.self.view_is
+    (selector_ready b c.rebuild.new.self a.0 a.1 c.rebuild.ensures.number (subst (λ (x : Seen). IsAsBefore c.self.inside.selected x) (sym c.rebuild.ensures.selected) c.in-Err.ensures.back)))
+
+pub returns-in-Err-clause-back : goal.returns-in-Err-clause-back
+returns-in-Err-clause-back g c =
+    err_both_on c.rebuild.result c.rebuild.ensures.still c.rebuild.ensures.other
+    (λ still other. subst (λ (l : Living). IsAsItWas l c.rebuild.new.self) c.self.view_is
+    (record { number = c.rebuild.ensures.number; state = still; selected = subst (λ (x : Seen). IsAsBefore c.self.inside.selected x) (sym c.rebuild.ensures.selected) c.in-Err.ensures.back; other = other }))
+
+pub returns-in-Err-clause-merged : goal.returns-in-Err-clause-merged
+returns-in-Err-clause-merged g c =
+    let words : is_selecting c.self.inside.state ≡ false = (quiet_words c.self.inside.state c.self.inside.selected.pending (ap is_pending c.self.view_is ∙ c.requires.quiet)).0 in
+    if_ok_all c.rebuild.result _ _ c.rebuild.ensures.free c.rebuild.ensures.built c.rebuild.ensures.token
+    (λ p a built is. λ L M N sh e merges.
+    let first : ShowsIn c.self.inside.selected L L = words_shown c.self.inside.state c.self.inside.selected c.self.inside.other L L words (subst (λ (l : Living). Shows l L L) (sym c.self.view_is) sh) in
+    let second : ShowsIn c.rebuild.new.self.selected L L = subst (λ (x : Seen). ShowsIn x L L) (sym c.rebuild.ensures.selected) (c.in-Err.ensures.still L L first) in
+    let e2 = e ∙ ap (λ (f : Family). all_answers f M) (ap (λ (l : Living). l.selected.family) (sym c.self.view_is) ∙ sym c.prepare.ensures.shape.0) in
+    subst (λ (x : Stores). Shows c.rebuild.new.self L (cond (is_of_selector x) M N)) (sym is)
+    (subst (λ (x : Other). ShowsBy x c.rebuild.new.self.selected c.rebuild.new.self.other L M) (sym a.1) (second, built M e2)))
