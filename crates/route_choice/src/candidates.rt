@@ -19,7 +19,7 @@ use crate::choice::{Choice, Pick};
 use crate::down::cuts_of;
 use crate::entries::entries_of as all_entries;
 use crate::over::give_back;
-use crate::plan::{Plan, over_of};
+use crate::plan::{Plan, end_plan, over_of};
 use crate::routes::routes_of as all_routes;
 use adj_rib_in::{Flat, PathAttrs, PathKey, Rank};
 use fib_prefix::{Addr, Cand, CandSink, Elem, Entry, Event, HopTable, Peer, Prefix, Via};
@@ -168,9 +168,7 @@ impl Candidates {
         ensures err { OnErr result (self.new ≡ self.old) }
     {
         load_elem(&mut self.flat, &mut self.paths, &mut self.ranks, elem)?;
-        let earlier = over_of(&self.room);
-        self.room = None;
-        give_back(&mut self.paths, &mut self.ranks, earlier, &None);
+        end_plan(&mut self.paths, &mut self.ranks, &mut self.room);
         Ok(())
     }
 
@@ -201,9 +199,7 @@ impl Candidates {
             path,
             hop,
         )?;
-        let earlier = over_of(&self.room);
-        self.room = None;
-        give_back(&mut self.paths, &mut self.ranks, earlier, &None);
+        end_plan(&mut self.paths, &mut self.ranks, &mut self.room);
         Ok(())
     }
 

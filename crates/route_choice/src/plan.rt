@@ -1,9 +1,14 @@
 //! What is planned, and where.
 
-ghost use Rattle.std.specs.Prelude.{◌≡◌};
+ghost use Rattle.std.specs.Prelude.{◌≡◌, None};
+ghost use Rattle.adj_rib_in.specs.Paths.{attrs_at as offered};
+ghost use Rattle.route_choice.specs.Kept.{PathsAreKept};
 ghost use Rattle.route_choice.specs.Space.{over_of as over};
 
+use crate::over::give_back;
+use adj_rib_in::{PathAttrs, PathKey, Rank};
 use fib_prefix::Elem;
+use std::collections::{BTreeMap, BTreeSet};
 
 /// The elementary event that was planned last, with the place of its slot in the base, if its path key has one, and the number of its
 /// prefix's row as a guess.
@@ -21,9 +26,47 @@ pub struct Plan {
 pub fn over_of(plan: &Option<Plan>) -> Option<Elem>
     ensures { result ≡ over plan.now }
 {
-    let plan = (*plan)?;
-    if plan.at.is_some() {
-        return None;
+    match plan {
+        Some(plan) => {
+            if plan.at.is_some() {
+                return None;
+            }
+            Some(plan.elem)
+        }
+        None => None,
     }
-    Some(plan.elem)
+}
+
+/// Makes a plan void, and gives back the room that it holds.
+#[cold]
+#[inline(never)]
+fn drop_plan(
+    paths: &mut BTreeMap<PathKey, Option<PathAttrs>>,
+    ranks: &mut BTreeSet<Rank>,
+    room: &mut Option<Plan>,
+)
+    ensures offers { (s : PathKey) → offered paths.new.entries s ≡ offered paths.old.entries s }
+    ensures kept { PathsAreKept paths.old.entries ranks.old.keys (over room.old) None
+        → PathsAreKept paths.new.entries ranks.new.keys None None }
+    ensures room { room.new ≡ None }
+{
+    let earlier = over_of(room);
+    *room = None;
+    give_back(paths, ranks, earlier, &None);
+}
+
+/// The same if there is a plan; mostly there is none, and nothing is read or written.
+pub fn end_plan(
+    paths: &mut BTreeMap<PathKey, Option<PathAttrs>>,
+    ranks: &mut BTreeSet<Rank>,
+    room: &mut Option<Plan>,
+)
+    ensures offers { (s : PathKey) → offered paths.new.entries s ≡ offered paths.old.entries s }
+    ensures kept { PathsAreKept paths.old.entries ranks.old.keys (over room.old) None
+        → PathsAreKept paths.new.entries ranks.new.keys None None }
+    ensures room { room.new ≡ None }
+{
+    if room.is_some() {
+        drop_plan(paths, ranks, room);
+    }
 }
