@@ -1,6 +1,13 @@
+use Rattle.std.proofs.Common.{◌≡◌, Option, ap, sym, subst, ◌∙◌}
+use Rattle.std.specs.Prelude.{option_map}
+use Rattle.table_model.specs.Address.{Prefix}
+use Rattle.fib_addr.specs.Views.{prefix_as}
+use Rattle.smalta_keep.specs.KnownBelow.{IsKnown}
+use Rattle.smalta_keep.specs.Known.{IsKnownHeld, held_place}
 use Rattle.smalta_keep.specs.Views.{place_in}
-use Rattle.smalta_keep.proofs.Planned.{tells, planned}
-use Rattle.smalta_keep.proofs.Knowing.{known_wide, known_more, known_planned}
+use Rattle.smalta_keep.proofs.Planned.{tells, planned, places}
+use Rattle.smalta_keep.proofs.Knowing.{known_more}
+use Rattle.smalta_keep.proofs.Held.{held_as, held_family, held_kept, known_noted}
 use Rattle.smalta_keep.proofs.keep.Keep.plan.Goals as goal
 
 pub invariant_of-self : goal.invariant_of-self
@@ -8,10 +15,20 @@ invariant_of-self c =
     let k = c.self.inside.tree in
     let l = c.plan_moves.new.tree in
     let m = c.plan_moves.ensures.keeps in
-    let at = place_in c.args.route in
+    let route = c.args.route in
+    let due = c.args.snapshot in
+    let fewest = c.args.fewest in
+    let u = c.keep.new.self.tree in
     let t = c.expect.new.self.tree in
     let v = c.plan_moves.new.dirty.tree in
-    known_planned c.args.route k l v c.family-family.ensures.order.0 (known_wide at k t v c.in-Ok.ensures.marked (known_more k c.self.inside.dirty.tree t c.expect.ensures c.self.invariant)) m.family c.in-Ok.ensures.set.routes m.entries
+    let known : IsKnown k t = known_more k u t c.expect.ensures (held_kept (option_map prefix_as c.self.inside.held) k c.self.inside.dirty.tree u c.keep.ensures c.self.invariant) in
+    let is : option_map prefix_as c.prefix_held.result ≡ held_place due fewest (place_in route) =
+    ap (option_map prefix_as) c.prefix_held.ensures ∙ (held_as due fewest c.planned_prefix-at.result ∙ ap (held_place due fewest) (places route c.planned_prefix-at.result c.planned_prefix-at.ensures))
+    in
+    subst (λ (at : Option Prefix). IsKnownHeld at l v) (sym is) (known_noted due fewest route k l t v c.family-family.ensures.order.0 (λ r e. c.requires.family r e) c.in-Ok.ensures.marked known m.family c.in-Ok.ensures.set.routes m.entries)
+
+pub keep-requires : goal.keep-requires
+keep-requires c = held_family c.self.inside.held c.self.inside.tree c.self.inside.dirty.tree c.self.invariant
 
 pub returns-in-Ok-clause-planned : goal.returns-in-Ok-clause-planned
 returns-in-Ok-clause-planned c = planned c.plan_moves.new.tree c.args.fewest (place_in c.args.route) c.args.snapshot c.in-Ok.repair c.in-Ok.ensures.moved c.in-Ok.ensures.set.held
