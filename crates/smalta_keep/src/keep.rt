@@ -1,6 +1,6 @@
 //! The kept table.
 
-ghost use Rattle.std.specs.Prelude.{◌≡◌, ◌≤◌, filter, ◌∷◌, ◌++◌, [], Some, IfOk, OnOk, OnErr, map};
+ghost use Rattle.std.specs.Prelude.{◌≡◌, ◌≤◌, filter, ◌∷◌, ◌++◌, [], true, false, Some, None, IfOk, OnOk, OnErr, map};
 ghost use Rattle.std.specs.Option.{ForSome};
 ghost use Rattle.std.specs.List.{AllByRecursion};
 ghost use Rattle.table_model.specs.Address.{same_family};
@@ -56,6 +56,14 @@ impl Model for Keep {
     ghost view = { λ k. k.tree };
 
     ghost invariant = { λ k. IsKnownHeld (option_map prefix_as k.held) k.tree k.dirty.tree };
+}
+
+/// Whether a plan with this route, if it has one, changes nothing.
+fn changes_nothing(route: Option<(Prefix, Hop)>, snapshot: bool) -> bool
+    ensures route { result ≡ true → route ≡ None }
+    ensures snapshot { result ≡ true → snapshot ≡ false }
+{
+    route.is_none() && !snapshot
 }
 
 impl Keep {
@@ -178,6 +186,9 @@ impl Keep {
     {
         // the routes stand in order
         let _family = self.tree.family();
+        if changes_nothing(route, snapshot) {
+            return Ok(Repair::nothing(self.alloc, fewest));
+        }
         let at = planned_prefix(route);
         self.dirty.keep(self.held);
         self.held = None;

@@ -4,8 +4,12 @@ use Rattle.table_model.specs.Address.{Prefix}
 use Rattle.fib_addr.specs.Views.{prefix_as}
 use Rattle.smalta_keep.specs.KnownBelow.{IsKnown}
 use Rattle.smalta_keep.specs.Known.{IsKnownHeld, held_place}
-use Rattle.smalta_keep.specs.Views.{place_in}
-use Rattle.smalta_keep.proofs.Planned.{tells, planned, places}
+use Rattle.fib_addr.specs.declared.prefix.Prefix as code_prefix
+use Rattle.fib_addr.specs.declared.entry.Hop as code_hop
+use Rattle.smalta_keep.specs.declared.routes.Former.{Former}
+use Rattle.smalta_keep.specs.Routes.{undone_in}
+use Rattle.smalta_keep.specs.Views.{place_in, with_planned}
+use Rattle.smalta_keep.proofs.Planned.{tells, planned, places, nothing_planned, nothing_told}
 use Rattle.smalta_keep.proofs.Knowing.{known_more}
 use Rattle.smalta_keep.proofs.Held.{held_as, held_family, held_kept, known_noted}
 use Rattle.smalta_keep.proofs.keep.Keep.plan.Goals as goal
@@ -35,3 +39,21 @@ returns-in-Ok-clause-planned c = planned c.plan_moves.new.tree c.args.fewest (pl
 
 pub returns-in-Ok-clause-moved : goal.returns-in-Ok-clause-moved
 returns-in-Ok-clause-moved c = tells c.plan_moves.new.tree c.args.fewest (place_in c.args.route) c.args.snapshot c.in-Ok.repair c.in-Ok.ensures.moved
+
+pub returns-then-changes_nothing-clause-routes : goal.returns-then-changes_nothing-clause-routes
+returns-then-changes_nothing-clause-routes c = ap (λ (r : Option (code_prefix.Prefix × code_hop.Hop)). with_planned r c.args.self.now.routes) (sym (c.changes_nothing.ensures.route c.if-changes_nothing.true))
+
+pub returns-then-changes_nothing-clause-planned : goal.returns-then-changes_nothing-clause-planned
+returns-then-changes_nothing-clause-planned c =
+    let n = c.nothing.ensures in
+    nothing_planned c.args.self.now c.nothing.result n.former n.reach n.due n.repair n.snapshot
+
+pub returns-then-changes_nothing-clause-moved : goal.returns-then-changes_nothing-clause-moved
+returns-then-changes_nothing-clause-moved c =
+    let n = c.nothing.ensures in
+    let x = c.changes_nothing.ensures in
+    let t = c.if-changes_nothing.true in
+    nothing_told c.args.self.now c.args.fewest c.args.route c.args.snapshot c.nothing.result (x.route t) (x.snapshot t) n.repair n.snapshot
+
+pub returns-then-changes_nothing-clause-undone : goal.returns-then-changes_nothing-clause-undone
+returns-then-changes_nothing-clause-undone c = ap (λ (o : Option Former). undone_in o c.args.self.now.routes) c.nothing.ensures.former
