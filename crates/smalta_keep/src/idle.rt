@@ -61,6 +61,16 @@ pub fn trim_last(tree: &mut Tree, prefix: Option<Prefix>)
     }
 }
 
+/// The same where the prefix's route was taken away: one that has a route is used.
+pub fn trim_cleared(tree: &mut Tree, prefix: Option<Prefix>, cleared: bool)
+    requires { ForSome prefix (λ p. p.family ≡ tree.old.family) }
+    ensures { ChangesNodes tree.old tree.new }
+{
+    if cleared {
+        trim_last(tree, prefix);
+    }
+}
+
 /// Drops the nodes that nothing uses where changes took entries away, or where those that weren't made would have added them.
 pub fn trim_left(tree: &mut Tree, changes: &[Change], made: bool)
     requires { AreOf tree.old.family (map change_as changes.now) }

@@ -22,7 +22,7 @@ ghost use Rattle.smalta_keep.specs.Answers.{IsAlike, IsAlikeFor, IsLeast, IsFewe
 use crate::dirty::DirtySet;
 use crate::entries::apply_all;
 use crate::held::{leave, prefix_held};
-use crate::idle::{trim_at, trim_last, trim_left};
+use crate::idle::{trim_at, trim_cleared, trim_last, trim_left};
 use crate::plan::{Due, plan_moves};
 use crate::repair::{Moved, Repair};
 use crate::routes::{former_prefix, planned_prefix, put_back_planned, set};
@@ -220,10 +220,11 @@ impl Keep {
         let reach = repair.reach;
         let due = repair.due;
         let fewest = repair.fewest;
+        let cleared = repair.cleared;
         let moved = repair.moved;
         apply_all(&mut self.tree, &moved.repair);
         apply_all(&mut self.tree, &moved.snapshot);
-        trim_last(&mut self.tree, at);
+        trim_cleared(&mut self.tree, at, cleared);
         trim_left(&mut self.tree, &moved.repair, true);
         trim_left(&mut self.tree, &moved.snapshot, true);
         leave(&mut self.dirty, self.held, self.alloc, family, due, fewest, reach);

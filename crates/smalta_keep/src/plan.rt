@@ -22,7 +22,7 @@ use crate::dirty::DirtySet;
 use crate::entries::{apply_all, are_at, make_room};
 use crate::held::note;
 use crate::repair::{Moved, Repair};
-use crate::routes::{Former, former_prefix, planned_prefix, put_back_planned, set_planned};
+use crate::routes::{Former, clears, former_prefix, planned_prefix, put_back_planned, set_planned};
 use crate::snapshot_delta;
 use crate::told::{Mend, mend_at};
 use fib_addr::{Hop, Prefix};
@@ -164,6 +164,7 @@ pub fn plan_moves(
     // the routes stand in order
     let _family = tree.family();
     let at = planned_prefix(route);
+    let cleared = clears(route);
     let former = set_planned(tree, route)?;
     let mend = mend_set(alloc, tree, &dirty.tree, former, due.fewest, due.snapshot)?;
     let former = with_room(tree, route, former, &mend.there)?;
@@ -175,6 +176,7 @@ pub fn plan_moves(
         };
         return Ok(Repair {
             former,
+            cleared,
             reach: mend.reach,
             due: due.snapshot,
             fewest: due.fewest,
@@ -192,6 +194,7 @@ pub fn plan_moves(
     };
     Ok(Repair {
         former,
+        cleared,
         reach: mend.reach,
         due: due.snapshot,
         fewest: due.fewest,

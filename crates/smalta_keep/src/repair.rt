@@ -21,6 +21,8 @@ pub struct Moved {
 #[derive(Debug, Drop)]
 pub struct Repair {
     pub(crate) former: Option<Former>,
+    /// Whether the prefix of that route has none from now on.
+    pub(crate) cleared: bool,
     /// The prefix that all changes of the repair are within, if there is one.
     pub(crate) reach: Option<Prefix>,
     /// Whether a snapshot is due.
@@ -41,6 +43,7 @@ impl Repair {
     {
         Repair {
             former: None,
+            cleared: false,
             reach: None,
             due: false,
             fewest,

@@ -62,8 +62,8 @@ returns-then-not-due-clause-moved c =
     let entries = c.with_room.ensures.keeps.entries ∙ c.mend_set.ensures.keeps.entries in
     let same = ap (repaired_table fewest k1) s1.place ∙ repaired_there fewest k1 k3 at family (s3.routes ∙ sym s1.routes) entries in
     let m = mend_there k1.family k3.family k1.entries k3.entries (repaired_table fewest k1 (former_place f1)) (repaired_table fewest k3 at) c.args.due.snapshot mend (sym family) (sym entries) same c.in_ok-mend.ensures.mend in
-    let r : Repair = record { former = c.in_ok-former-2.former; reach = mend.reach; due = c.args.due.snapshot; fewest = fewest; moved = record { repair = mend.there; snapshot = c.new.result } } in
-    subst (λ (due : Bool). IsMoved k3 fewest at due (record { former = r.former; reach = r.reach; due = due; fewest = r.fewest; moved = r.moved })) (sym (is_off c.args.due.snapshot c.if-not-due.true))
+    let r : Repair = record { former = c.in_ok-former-2.former; cleared = c.clears-cleared.result; reach = mend.reach; due = c.args.due.snapshot; fewest = fewest; moved = record { repair = mend.there; snapshot = c.new.result } } in
+    subst (λ (due : Bool). IsMoved k3 fewest at due (record { former = r.former; cleared = r.cleared; reach = r.reach; due = due; fewest = r.fewest; moved = r.moved })) (sym (is_off c.args.due.snapshot c.if-not-due.true))
     (record {
       is_due = refl;
       is_fewest = refl;
@@ -149,8 +149,8 @@ returns-clause-moved c =
     let m = mend_there k1.family k6.family k1.entries k6.entries (repaired_table fewest k1 (former_place f1)) (repaired_table fewest k6 at) c.args.due.snapshot mend (sym family) (sym entries) same i in
     let N = repaired_table fewest k6 at in
     let made = ap (mended mend) (sym (e.entries ∙ d.entries)) ∙ mended_is k6.family c.args.due.snapshot k6.entries N mend m in
-    let r : Repair = record { former = c.in_ok-former-4.former; reach = mend.reach; due = c.args.due.snapshot; fewest = fewest; moved = record { repair = mend.there; snapshot = c.in_ok-changes.changes } } in
-    subst (λ (due : Bool). IsMoved k6 fewest at due (record { former = r.former; reach = r.reach; due = due; fewest = r.fewest; moved = r.moved })) (sym (is_on c.args.due.snapshot c.if-not-due.false))
+    let r : Repair = record { former = c.in_ok-former-4.former; cleared = c.clears-cleared.result; reach = mend.reach; due = c.args.due.snapshot; fewest = fewest; moved = record { repair = mend.there; snapshot = c.in_ok-changes.changes } } in
+    subst (λ (due : Bool). IsMoved k6 fewest at due (record { former = r.former; cleared = r.cleared; reach = r.reach; due = due; fewest = r.fewest; moved = r.moved })) (sym (is_on c.args.due.snapshot c.if-not-due.false))
     (record {
       is_due = refl;
       is_fewest = refl;

@@ -52,7 +52,7 @@ returns-clause-table c =
     let e : c.self.inside.tree.entries ≡ T = ap (λ (s : Labels). s.entries) c.self.view_is in
     let went : after_changes (repair_as m) T ≡ Some N = ap (after_changes (repair_as m)) (sym e) ∙ (ap (λ (cs : List code.Change). after_changes (map change_as cs) c.self.inside.tree.entries) (sym c.deref.ensures.value) ∙ c.apply_all.ensures.entries) in
     second_run (repair_as m) (snapshot_as m) T N fits went
-    ∙ (ap (λ (cs : List code.Change). after_changes (map change_as cs) N) (sym c.deref-2.ensures.value) ∙ (c.apply_all-2.ensures.entries ∙ ap Some (sym (c.trim_left-2.ensures.entries ∙ (c.trim_left.ensures.entries ∙ c.trim_last.ensures.entries)))))
+    ∙ (ap (λ (cs : List code.Change). after_changes (map change_as cs) N) (sym c.deref-2.ensures.value) ∙ (c.apply_all-2.ensures.entries ∙ ap Some (sym (c.trim_left-2.ensures.entries ∙ (c.trim_left.ensures.entries ∙ c.trim_cleared.ensures.entries)))))
 
 pub invariant_of-self : goal.invariant_of-self
 invariant_of-self c =
@@ -65,13 +65,13 @@ invariant_of-self c =
     let went : after_changes (repair_as m) k.entries ≡ Some N = ap (λ (cs : List code.Change). after_changes (map change_as cs) k.entries) (sym c.deref.ensures.value) ∙ c.apply_all.ensures.entries in
     let made : after_changes (repair_as m ++ snapshot_as m) k.entries ≡ Some l.entries =
     second_run (repair_as m) (snapshot_as m) k.entries N (ap is_some q.makes) went
-    ∙ (ap (λ (cs : List code.Change). after_changes (map change_as cs) N) (sym c.deref-2.ensures.value) ∙ (c.apply_all-2.ensures.entries ∙ ap Some (sym (c.trim_left-2.ensures.entries ∙ (c.trim_left.ensures.entries ∙ c.trim_last.ensures.entries)))))
+    ∙ (ap (λ (cs : List code.Change). after_changes (map change_as cs) N) (sym c.deref-2.ensures.value) ∙ (c.apply_all-2.ensures.entries ∙ ap Some (sym (c.trim_left-2.ensures.entries ∙ (c.trim_left.ensures.entries ∙ c.trim_cleared.ensures.entries)))))
     in
     let held = option_map prefix_as c.self.inside.held in
     known_left due c.args.repair.fewest (option_map prefix_as c.args.repair.reach) held k l q.repaired c.self.inside.dirty.tree c.leave.new.dirty.tree
     (subst (λ (f : Family). AreLeftHeld due c.args.repair.fewest f (option_map prefix_as c.args.repair.reach) held c.self.inside.dirty.tree c.leave.new.dirty.tree) c.family-family.ensures.family c.leave.ensures)
-    c.self.invariant (c.trim_left-2.ensures.family ∙ (c.trim_left.ensures.family ∙ (c.trim_last.ensures.family ∙ (c.apply_all-2.ensures.keeps.family ∙ c.apply_all.ensures.keeps.family))))
-    (c.trim_left-2.ensures.routes ∙ (c.trim_left.ensures.routes ∙ (c.trim_last.ensures.routes ∙ (c.apply_all-2.ensures.keeps.routes ∙ c.apply_all.ensures.keeps.routes)))) q.beside q.settled (some_is l.entries (after_snapshot k.family k.routes due q.repaired) (sym made ∙ q.makes))
+    c.self.invariant (c.trim_left-2.ensures.family ∙ (c.trim_left.ensures.family ∙ (c.trim_cleared.ensures.family ∙ (c.apply_all-2.ensures.keeps.family ∙ c.apply_all.ensures.keeps.family))))
+    (c.trim_left-2.ensures.routes ∙ (c.trim_left.ensures.routes ∙ (c.trim_cleared.ensures.routes ∙ (c.apply_all-2.ensures.keeps.routes ∙ c.apply_all.ensures.keeps.routes)))) q.beside q.settled (some_is l.entries (after_snapshot k.family k.routes due q.repaired) (sym made ∙ q.makes))
 
 pub leave-requires-clause-held : goal.leave-requires-clause-held
 leave-requires-clause-held c = held_family c.self.inside.held c.self.inside.tree c.self.inside.dirty.tree c.self.invariant
