@@ -1,5 +1,5 @@
 -- The kept tables of both families.
-use Rattle.std.specs.Prelude.{◌≡◌, ℕ, List, [], ◌++◌, Bool, cond, Option, Some, None}
+use Rattle.std.specs.Prelude.{◌≡◌, ℕ, List, [], ◌++◌, Bool, cond, Option, Some, None, length, map}
 use Rattle.std.specs.List.{filter}
 use Rattle.table_model.specs.Address.{same_family}
 use Rattle.table_model.specs.declared.family.Family.{Family}
@@ -18,6 +18,8 @@ use Rattle.poptrie_build.specs.declared.counts.Needs.{Needs}
 use Rattle.route_tries.specs.Sizes.{needs_of_both}
 use Rattle.route_tries.specs.Parts.{IsNeedAfter}
 use Rattle.route_tries.specs.declared.needs.FamilyNeeds.{FamilyNeeds}
+use Rattle.fib_delta.specs.Views.{change_as}
+use Rattle.fib_engine.specs.declared.tables.EventChanges.{EventChanges}
 use Rattle.fib_engine.specs.declared.tables.Plan.{Plan}
 
 -- what is seen of both
@@ -105,6 +107,21 @@ pub record AreTold (both : Both) (fewest : Bool) (route : Route) (due : Bool) (v
 -- the changes of a family's plan, made
 abbrev pub MadeBy : Repair → Labels → Labels → Type 0
 MadeBy r old new = after_changes (repair_as (moved_of r) ++ snapshot_as (moved_of r)) old.entries ≡ Some new.entries
+
+-- the tables after the changes of an event's plan were made, which are these
+pub record AreTablesMoved (fewest : Bool) (route : Route) (due : Bool) (old new : Both) (e : EventChanges) : Type 0 where
+  -- the tables with the plan, and what is planned of each
+  pub planned : Both
+  pub v4 : Repair
+  pub v6 : Repair
+  pub keeps : KeepTables old planned
+  pub put : ArePut route old planned
+  pub told : AreTold planned fewest route due v4 v6
+  pub routes : KeepRoutes planned new
+  pub made4 : MadeBy v4 planned.v4 new.v4
+  pub made6 : MadeBy v6 planned.v6 new.v6
+  pub changes : map change_as e.changes.items ≡ gathered (moved_of v4) (moved_of v6)
+  pub first : e.first ≡ length (both_firsts (moved_of v4) (moved_of v6))
 
 -- the tables of these routes, before their first snapshot
 pub record AreOfRoutes (E : Entries) (both : Both) : Type 0 where

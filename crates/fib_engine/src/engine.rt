@@ -26,7 +26,7 @@ ghost use Rattle.fib_engine.specs.Stands.{EndsLoad, IsLoading, IsShortFor, IsToo
 
 use crate::error::EngineError;
 use crate::final_fib::FinalFib;
-use crate::fitting::plan_fitting;
+use crate::moving::move_tables;
 use crate::tables::{EventChanges, Tables};
 use crate::turns::Turns;
 use fib_prefix::{Addr, Elem, Entry, Event, Family, Hop, HopTable, HopsFull, Prefix, Via};
@@ -341,7 +341,7 @@ impl Engine {
         let route = changed_route(&self.hops, own, pick.choice());
         let due = is_due(self.limits.every, event);
         let limits = &self.limits;
-        let fitting = plan_fitting(
+        let moved = move_tables(
             &mut self.tables,
             self.alloc,
             route,
@@ -354,10 +354,9 @@ impl Engine {
         self.candidates.commit(pick);
         number_hop(&mut self.hops, own, elem);
         self.events = event;
-        self.needs = fitting.needs;
-        let changes = self.tables.commit(fitting.plan);
-        self.moves = moves_made(route, &changes);
-        Ok(changes)
+        self.needs = moved.needs;
+        self.moves = moves_made(route, &moved.changes);
+        Ok(moved.changes)
     }
 
     /// How many changes the last event after the load needed before its snapshot; `None` exactly where it changed no chosen hop, or

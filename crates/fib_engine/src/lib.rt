@@ -17,6 +17,7 @@ mod engine;
 mod error;
 mod final_fib;
 mod fitting;
+mod moving;
 mod tables;
 mod turns;
 

@@ -24,31 +24,31 @@ use Rattle.fib_engine.specs.declared.tables.EventChanges.{EventChanges}
 use Rattle.fib_engine.proofs.Taking.{applied, are_alike, is_elem, kept_placed, not_over, shortest_first, stands_more, table_placed, turned_routes}
 use Rattle.fib_engine.proofs.engine.Engine.apply.Goals as goal
 
-pub plan_fitting-requires-clause-order : goal.plan_fitting-requires-clause-order
-plan_fitting-requires-clause-order c =
+pub move_tables-requires-clause-order : goal.move_tables-requires-clause-order
+move_tables-requires-clause-order c =
     let t = c.self.inside in
     let loaded : t.is_loaded ≡ true = ap (λ (e : EngineState). e.loaded) c.self.view_is ∙ c.requires.loaded in
     kept_placed t.candidates.candidates t.hops.list t.tables (subst (λ (b : Bool). IsSound t.candidates.candidates t.hops.list b t.tables) loaded c.self.invariant.0)
 
-pub plan_fitting-requires-clause-alike : goal.plan_fitting-requires-clause-alike
-plan_fitting-requires-clause-alike c =
+pub move_tables-requires-clause-alike : goal.move_tables-requires-clause-alike
+move_tables-requires-clause-alike c =
     let t = c.self.inside in
     are_alike t.candidates.candidates t.hops.list t.is_loaded t.tables c.self.invariant.0
 
-pub plan_fitting-requires-clause-needs : goal.plan_fitting-requires-clause-needs
-plan_fitting-requires-clause-needs c =
+pub move_tables-requires-clause-needs : goal.move_tables-requires-clause-needs
+move_tables-requires-clause-needs c =
     let t = c.self.inside in
     let s = c.self.invariant.0 in
     c.self.invariant.1.needs ∙ sym (needs_known t.limits.sizes.direct t.tables.v4.routes t.tables.v6.routes (if_loaded t.is_loaded (entries_of t.hops.list t.candidates.candidates)) s.v4.routes s.v6.routes)
 
-pub plan_fitting-requires-clause-fits : goal.plan_fitting-requires-clause-fits
-plan_fitting-requires-clause-fits c =
+pub move_tables-requires-clause-fits : goal.move_tables-requires-clause-fits
+move_tables-requires-clause-fits c =
     let t = c.self.inside in
     let s = c.self.invariant.0 in
     ap (first_short (sizes_as t.limits.sizes)) (needs_known t.limits.sizes.direct t.tables.v4.routes t.tables.v6.routes (if_loaded t.is_loaded (entries_of t.hops.list t.candidates.candidates)) s.v4.routes s.v6.routes) ∙ c.self.invariant.1.fit
 
-pub returns-in_err-fitting-clause-short : goal.returns-in_err-fitting-clause-short
-returns-in_err-fitting-clause-short c = λ full e.
+pub returns-in_err-moved-clause-short : goal.returns-in_err-moved-clause-short
+returns-in_err-moved-clause-short c = λ full e.
     let t = c.self.inside in
     let C = t.candidates.candidates in
     let H = t.hops.list in
@@ -69,9 +69,9 @@ returns-in_err-fitting-clause-short c = λ full e.
     let put : needs_put z.direct route t.tables ≡ needs_of z.direct N =
     needs_known z.direct (with_planned (route_in V4 route) t.tables.v4.routes) (with_planned (route_in V6 route) t.tables.v6.routes) N (ap (with_planned (route_in V4 route)) s.v4.routes ∙ turn V4) (ap (with_planned (route_in V6 route)) s.v6.routes ∙ turn V6)
     in
-    let p = err_from_is_err_and c.from_residual-in_err-fitting.result c.from_residual-in_err-fitting.ensures.1 in
-    let is : c.in_err-fitting.field-0.0 ≡ TrieFull full = sym p.2 ∙ err_is (sym p.1 ∙ e) in
-    subst (λ (h : EngineState). shortage h.sizes (routes_after elem h) ≡ Some (shortage_as full)) c.self.view_is (ap (first_short z) (sym put) ∙ c.in_err-fitting.ensures.short full (ap Err is))
+    let p = err_from_is_err_and c.from_residual-in_err-moved.result c.from_residual-in_err-moved.ensures.1 in
+    let is : c.in_err-moved.field-0.0 ≡ TrieFull full = sym p.2 ∙ err_is (sym p.1 ∙ e) in
+    subst (λ (h : EngineState). shortage h.sizes (routes_after elem h) ≡ Some (shortage_as full)) c.self.view_is (ap (first_short z) (sym put) ∙ c.in_err-moved.ensures.short full (ap Err is))
 
 pub invariant_of-self-2 : goal.invariant_of-self-2
 invariant_of-self-2 c =
@@ -95,18 +95,19 @@ invariant_of-self-2 c =
     let put : needs_put z.direct route t.tables ≡ needs_of z.direct N =
     needs_known z.direct (with_planned (route_in V4 route) t.tables.v4.routes) (with_planned (route_in V6 route) t.tables.v6.routes) N (ap (with_planned (route_in V4 route)) s.v4.routes ∙ turn V4) (ap (with_planned (route_in V6 route)) s.v6.routes ∙ turn V6)
     in
-    let told = c.in_ok-fitting.ensures in
+    let told = c.in_ok-moved.ensures in
+    let moved = told.moved in
     let T =
-    applied t.limits.fewest t.limits.every (t.events + 1) C H c.room.new.self.list elem t.tables c.plan_fitting.new.tables c.commit-changes.new.self choice c.in_ok-own.own c.changed_route-route.result c.in_ok-fitting.fitting.plan.v4 c.in_ok-fitting.fitting.plan.v6 c.is_due-due.result s (is_elem c.args.elem.now) c.room.ensures.list
-    (not_over (length (hops_after H (elem ∷ []))) c.in_ok-own.ensures.full.1) c.in_ok-own.ensures.number ch c.changed_route-route.ensures c.plan_fitting.ensures.tables told.put told.told c.commit-changes.ensures.routes c.commit-changes.ensures.v4 c.commit-changes.ensures.v6 c.is_due-due.ensures
+    applied t.limits.fewest t.limits.every (t.events + 1) C H c.room.new.self.list elem t.tables moved.planned c.move_tables.new.tables choice c.in_ok-own.own c.changed_route-route.result moved.v4 moved.v6 c.is_due-due.result s (is_elem c.args.elem.now) c.room.ensures.list
+    (not_over (length (hops_after H (elem ∷ []))) c.in_ok-own.ensures.full.1) c.in_ok-own.ensures.number ch c.changed_route-route.ensures moved.keeps moved.put moved.told moved.routes moved.made4 moved.made6 c.is_due-due.ensures
     in
     let held : c.commit.new.self.candidates ≡ after_elem C elem = c.commit.ensures.candidates ∙ (ap (λ (X : Candidates). after_elem X (pick_elem pick)) c.plan.ensures.candidates ∙ ap (λ (e : Elem). after_elem C e) c.in_ok-pick.ensures.elem) in
     let hops : c.number_hop.new.hops.list ≡ hops_after H (elem ∷ []) = c.number_hop.ensures ∙ ap (λ (hs : List Address). hops_after hs (elem ∷ [])) c.room.ensures.list in
     let routes : entries_of c.number_hop.new.hops.list c.commit.new.self.candidates ≡ N = ap (λ (hs : List Address). entries_of hs c.commit.new.self.candidates) hops ∙ ap (entries_of (hops_after H (elem ∷ []))) held in
-    let fit : shortage z N ≡ None = ap (first_short z) (sym put) ∙ c.in_ok-fitting.ensures.fits in (
-      subst (λ (l : Bool). IsSound c.commit.new.self.candidates c.number_hop.new.hops.list l c.commit-changes.new.self) (sym loaded)
-          (subst (λ (X : Candidates). IsSound X c.number_hop.new.hops.list true c.commit-changes.new.self) (sym held) (subst (λ (hs : List Address). IsSound (after_elem C elem) hs true c.commit-changes.new.self) (sym hops) T.sound)),
-      subst (λ (R : Entries). AreKeptNeeds z R c.in_ok-fitting.fitting.needs) (sym (ap (λ l. if_loaded l (entries_of c.number_hop.new.hops.list c.commit.new.self.candidates)) loaded ∙ routes)) (record { needs = told.needs ∙ put; fit = fit }),
+    let fit : shortage z N ≡ None = ap (first_short z) (sym put) ∙ c.in_ok-moved.ensures.fits in (
+      subst (λ (l : Bool). IsSound c.commit.new.self.candidates c.number_hop.new.hops.list l c.move_tables.new.tables) (sym loaded)
+          (subst (λ (X : Candidates). IsSound X c.number_hop.new.hops.list true c.move_tables.new.tables) (sym held) (subst (λ (hs : List Address). IsSound (after_elem C elem) hs true c.move_tables.new.tables) (sym hops) T.sound)),
+      subst (λ (R : Entries). AreKeptNeeds z R c.in_ok-moved.moved.needs) (sym (ap (λ l. if_loaded l (entries_of c.number_hop.new.hops.list c.commit.new.self.candidates)) loaded ∙ routes)) (record { needs = told.needs ∙ put; fit = fit }),
     )
 
 pub returns-clause-takes : goal.returns-clause-takes
@@ -125,14 +126,15 @@ returns-clause-takes c =
     (subst (λ (e : Elem). IsChoice c.plan.new.self.candidates e choice) c.in_ok-pick.ensures.elem
     (subst (λ (z : Choice). IsChoice c.plan.new.self.candidates (pick_elem pick) z) (sym c.choice.ensures) c.in_ok-pick.ensures.planned.choice))
     in
-    let told = c.in_ok-fitting.ensures in
+    let told = c.in_ok-moved.ensures in
+    let moved = told.moved in
     let T =
-    applied t.limits.fewest t.limits.every (t.events + 1) C H c.room.new.self.list elem t.tables c.plan_fitting.new.tables c.commit-changes.new.self choice c.in_ok-own.own c.changed_route-route.result c.in_ok-fitting.fitting.plan.v4 c.in_ok-fitting.fitting.plan.v6 c.is_due-due.result s (is_elem c.args.elem.now) c.room.ensures.list
-    (not_over (length (hops_after H (elem ∷ []))) c.in_ok-own.ensures.full.1) c.in_ok-own.ensures.number ch c.changed_route-route.ensures c.plan_fitting.ensures.tables told.put told.told c.commit-changes.ensures.routes c.commit-changes.ensures.v4 c.commit-changes.ensures.v6 c.is_due-due.ensures
+    applied t.limits.fewest t.limits.every (t.events + 1) C H c.room.new.self.list elem t.tables moved.planned c.move_tables.new.tables choice c.in_ok-own.own c.changed_route-route.result moved.v4 moved.v6 c.is_due-due.result s (is_elem c.args.elem.now) c.room.ensures.list
+    (not_over (length (hops_after H (elem ∷ []))) c.in_ok-own.ensures.full.1) c.in_ok-own.ensures.number ch c.changed_route-route.ensures moved.keeps moved.put moved.told moved.routes moved.made4 moved.made6 c.is_due-due.ensures
     in
     let held : c.commit.new.self.candidates ≡ after_elem C elem = c.commit.ensures.candidates ∙ (ap (λ (X : Candidates). after_elem X (pick_elem pick)) c.plan.ensures.candidates ∙ ap (λ (e : Elem). after_elem C e) c.in_ok-pick.ensures.elem) in
     let hops : c.number_hop.new.hops.list ≡ hops_after H (elem ∷ []) = c.number_hop.ensures ∙ ap (λ (hs : List Address). hops_after hs (elem ∷ [])) c.room.ensures.list in
-    let new : EngineState = record { every = t.limits.every; fewest = t.limits.fewest; sizes = z; candidates = c.commit.new.self.candidates; hops = c.number_hop.new.hops.list; table = table_of c.commit-changes.new.self; loaded = t.is_loaded; events = t.events + 1; moves = c.moves_made-self-inside.result } in
+    let new : EngineState = record { every = t.limits.every; fewest = t.limits.fewest; sizes = z; candidates = c.commit.new.self.candidates; hops = c.number_hop.new.hops.list; table = table_of c.move_tables.new.tables; loaded = t.is_loaded; events = t.events + 1; moves = c.moves_made-self-inside.result } in
     let old : EngineState = record { every = t.limits.every; fewest = t.limits.fewest; sizes = z; candidates = C; hops = H; table = table_of t.tables; loaded = t.is_loaded; events = t.events; moves = t.moves } in
     let first : TakesElem elem old new =
     record {
@@ -144,7 +146,7 @@ returns-clause-takes c =
       table = T.table ∙ ap (λ (hs : List Address). table_by t.limits.fewest t.limits.every hs (t.events + 1) C (table_of t.tables) elem) (sym hops);
       loaded = refl;
       events = refl;
-      moves = c.moves_made-self-inside.ensures ∙ T.moves c.commit-changes.result.first (ap (λ (e : EventChanges). e.first) c.commit-changes.ensures.changes ∙ told.first);
+      moves = c.moves_made-self-inside.ensures ∙ T.moves c.in_ok-moved.moved.changes.first moved.first;
     }
     in
     let takes : TakesElem elem c.args.self.now new = subst (λ (o : EngineState). TakesElem elem o new) c.self.view_is first in
@@ -166,12 +168,13 @@ returns-clause-changes c =
     (subst (λ (e : Elem). IsChoice c.plan.new.self.candidates e choice) c.in_ok-pick.ensures.elem
     (subst (λ (z : Choice). IsChoice c.plan.new.self.candidates (pick_elem pick) z) (sym c.choice.ensures) c.in_ok-pick.ensures.planned.choice))
     in
-    let told = c.in_ok-fitting.ensures in
+    let told = c.in_ok-moved.ensures in
+    let moved = told.moved in
     let T =
-    applied t.limits.fewest t.limits.every (t.events + 1) C H c.room.new.self.list elem t.tables c.plan_fitting.new.tables c.commit-changes.new.self choice c.in_ok-own.own c.changed_route-route.result c.in_ok-fitting.fitting.plan.v4 c.in_ok-fitting.fitting.plan.v6 c.is_due-due.result s (is_elem c.args.elem.now) c.room.ensures.list
-    (not_over (length (hops_after H (elem ∷ []))) c.in_ok-own.ensures.full.1) c.in_ok-own.ensures.number ch c.changed_route-route.ensures c.plan_fitting.ensures.tables told.put told.told c.commit-changes.ensures.routes c.commit-changes.ensures.v4 c.commit-changes.ensures.v6 c.is_due-due.ensures
+    applied t.limits.fewest t.limits.every (t.events + 1) C H c.room.new.self.list elem t.tables moved.planned c.move_tables.new.tables choice c.in_ok-own.own c.changed_route-route.result moved.v4 moved.v6 c.is_due-due.result s (is_elem c.args.elem.now) c.room.ensures.list
+    (not_over (length (hops_after H (elem ∷ []))) c.in_ok-own.ensures.full.1) c.in_ok-own.ensures.number ch c.changed_route-route.ensures moved.keeps moved.put moved.told moved.routes moved.made4 moved.made6 c.is_due-due.ensures
     in
-    ap (λ (e : EventChanges). map change_as e.changes.items) c.commit-changes.ensures.changes ∙ (told.changes ∙ (T.changes ∙ ap (λ (o : EngineState). changes_of elem o) c.self.view_is))
+    moved.changes ∙ (T.changes ∙ ap (λ (o : EngineState). changes_of elem o) c.self.view_is)
 
 pub returns-clause-first : goal.returns-clause-first
 returns-clause-first c =
@@ -189,12 +192,13 @@ returns-clause-first c =
     (subst (λ (e : Elem). IsChoice c.plan.new.self.candidates e choice) c.in_ok-pick.ensures.elem
     (subst (λ (z : Choice). IsChoice c.plan.new.self.candidates (pick_elem pick) z) (sym c.choice.ensures) c.in_ok-pick.ensures.planned.choice))
     in
-    let told = c.in_ok-fitting.ensures in
+    let told = c.in_ok-moved.ensures in
+    let moved = told.moved in
     let T =
-    applied t.limits.fewest t.limits.every (t.events + 1) C H c.room.new.self.list elem t.tables c.plan_fitting.new.tables c.commit-changes.new.self choice c.in_ok-own.own c.changed_route-route.result c.in_ok-fitting.fitting.plan.v4 c.in_ok-fitting.fitting.plan.v6 c.is_due-due.result s (is_elem c.args.elem.now) c.room.ensures.list
-    (not_over (length (hops_after H (elem ∷ []))) c.in_ok-own.ensures.full.1) c.in_ok-own.ensures.number ch c.changed_route-route.ensures c.plan_fitting.ensures.tables told.put told.told c.commit-changes.ensures.routes c.commit-changes.ensures.v4 c.commit-changes.ensures.v6 c.is_due-due.ensures
+    applied t.limits.fewest t.limits.every (t.events + 1) C H c.room.new.self.list elem t.tables moved.planned c.move_tables.new.tables choice c.in_ok-own.own c.changed_route-route.result moved.v4 moved.v6 c.is_due-due.result s (is_elem c.args.elem.now) c.room.ensures.list
+    (not_over (length (hops_after H (elem ∷ []))) c.in_ok-own.ensures.full.1) c.in_ok-own.ensures.number ch c.changed_route-route.ensures moved.keeps moved.put moved.told moved.routes moved.made4 moved.made6 c.is_due-due.ensures
     in
-    ap (λ (e : EventChanges). e.first) c.commit-changes.ensures.changes ∙ (told.first ∙ (ap length T.first ∙ ap (λ (o : EngineState). length (first_of elem o)) c.self.view_is))
+    moved.first ∙ (ap length T.first ∙ ap (λ (o : EngineState). length (first_of elem o)) c.self.view_is)
 
 pub returns-clause-shortest : goal.returns-clause-shortest
 returns-clause-shortest c =
@@ -226,7 +230,7 @@ returns-clause-fits c =
     let held : c.commit.new.self.candidates ≡ after_elem C elem = c.commit.ensures.candidates ∙ (ap (λ (X : Candidates). after_elem X (pick_elem pick)) c.plan.ensures.candidates ∙ ap (λ (e : Elem). after_elem C e) c.in_ok-pick.ensures.elem) in
     let hops : c.number_hop.new.hops.list ≡ hops_after H (elem ∷ []) = c.number_hop.ensures ∙ ap (λ (hs : List Address). hops_after hs (elem ∷ [])) c.room.ensures.list in
     let routes : entries_of c.number_hop.new.hops.list c.commit.new.self.candidates ≡ N = ap (λ (hs : List Address). entries_of hs c.commit.new.self.candidates) hops ∙ ap (entries_of (hops_after H (elem ∷ []))) held in
-    let fit : shortage z N ≡ None = ap (first_short z) (sym put) ∙ c.in_ok-fitting.ensures.fits in
+    let fit : shortage z N ≡ None = ap (first_short z) (sym put) ∙ c.in_ok-moved.ensures.fits in
     ap (shortage z) routes ∙ fit
 
 pub returns-clause-stands : goal.returns-clause-stands
@@ -251,16 +255,17 @@ returns-clause-stands c = λ load elems st.
     let put : needs_put z.direct route t.tables ≡ needs_of z.direct N =
     needs_known z.direct (with_planned (route_in V4 route) t.tables.v4.routes) (with_planned (route_in V6 route) t.tables.v6.routes) N (ap (with_planned (route_in V4 route)) s.v4.routes ∙ turn V4) (ap (with_planned (route_in V6 route)) s.v6.routes ∙ turn V6)
     in
-    let told = c.in_ok-fitting.ensures in
+    let told = c.in_ok-moved.ensures in
+    let moved = told.moved in
     let T =
-    applied t.limits.fewest t.limits.every (t.events + 1) C H c.room.new.self.list elem t.tables c.plan_fitting.new.tables c.commit-changes.new.self choice c.in_ok-own.own c.changed_route-route.result c.in_ok-fitting.fitting.plan.v4 c.in_ok-fitting.fitting.plan.v6 c.is_due-due.result s (is_elem c.args.elem.now) c.room.ensures.list
-    (not_over (length (hops_after H (elem ∷ []))) c.in_ok-own.ensures.full.1) c.in_ok-own.ensures.number ch c.changed_route-route.ensures c.plan_fitting.ensures.tables told.put told.told c.commit-changes.ensures.routes c.commit-changes.ensures.v4 c.commit-changes.ensures.v6 c.is_due-due.ensures
+    applied t.limits.fewest t.limits.every (t.events + 1) C H c.room.new.self.list elem t.tables moved.planned c.move_tables.new.tables choice c.in_ok-own.own c.changed_route-route.result moved.v4 moved.v6 c.is_due-due.result s (is_elem c.args.elem.now) c.room.ensures.list
+    (not_over (length (hops_after H (elem ∷ []))) c.in_ok-own.ensures.full.1) c.in_ok-own.ensures.number ch c.changed_route-route.ensures moved.keeps moved.put moved.told moved.routes moved.made4 moved.made6 c.is_due-due.ensures
     in
     let held : c.commit.new.self.candidates ≡ after_elem C elem = c.commit.ensures.candidates ∙ (ap (λ (X : Candidates). after_elem X (pick_elem pick)) c.plan.ensures.candidates ∙ ap (λ (e : Elem). after_elem C e) c.in_ok-pick.ensures.elem) in
     let hops : c.number_hop.new.hops.list ≡ hops_after H (elem ∷ []) = c.number_hop.ensures ∙ ap (λ (hs : List Address). hops_after hs (elem ∷ [])) c.room.ensures.list in
     let routes : entries_of c.number_hop.new.hops.list c.commit.new.self.candidates ≡ N = ap (λ (hs : List Address). entries_of hs c.commit.new.self.candidates) hops ∙ ap (entries_of (hops_after H (elem ∷ []))) held in
-    let fit : shortage z N ≡ None = ap (first_short z) (sym put) ∙ c.in_ok-fitting.ensures.fits in
-    let new : EngineState = record { every = t.limits.every; fewest = t.limits.fewest; sizes = z; candidates = c.commit.new.self.candidates; hops = c.number_hop.new.hops.list; table = table_of c.commit-changes.new.self; loaded = t.is_loaded; events = t.events + 1; moves = c.moves_made-self-inside.result } in
+    let fit : shortage z N ≡ None = ap (first_short z) (sym put) ∙ c.in_ok-moved.ensures.fits in
+    let new : EngineState = record { every = t.limits.every; fewest = t.limits.fewest; sizes = z; candidates = c.commit.new.self.candidates; hops = c.number_hop.new.hops.list; table = table_of c.move_tables.new.tables; loaded = t.is_loaded; events = t.events + 1; moves = c.moves_made-self-inside.result } in
     let old : EngineState = record { every = t.limits.every; fewest = t.limits.fewest; sizes = z; candidates = C; hops = H; table = table_of t.tables; loaded = t.is_loaded; events = t.events; moves = t.moves } in
     let first : TakesElem elem old new =
     record {
@@ -272,7 +277,7 @@ returns-clause-stands c = λ load elems st.
       table = T.table ∙ ap (λ (hs : List Address). table_by t.limits.fewest t.limits.every hs (t.events + 1) C (table_of t.tables) elem) (sym hops);
       loaded = refl;
       events = refl;
-      moves = c.moves_made-self-inside.ensures ∙ T.moves c.commit-changes.result.first (ap (λ (e : EventChanges). e.first) c.commit-changes.ensures.changes ∙ told.first);
+      moves = c.moves_made-self-inside.ensures ∙ T.moves c.in_ok-moved.moved.changes.first moved.first;
     }
     in
     let takes : TakesElem elem c.args.self.now new = subst (λ (o : EngineState). TakesElem elem o new) c.self.view_is first in
