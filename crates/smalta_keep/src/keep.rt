@@ -227,7 +227,15 @@ impl Keep {
         trim_cleared(&mut self.tree, at, cleared);
         trim_left(&mut self.tree, &moved.repair, true);
         trim_left(&mut self.tree, &moved.snapshot, true);
-        leave(&mut self.dirty, self.held, self.alloc, family, due, fewest, reach);
+        leave(
+            &mut self.dirty,
+            self.held,
+            self.alloc,
+            family,
+            due,
+            fewest,
+            reach,
+        );
         self.held = None;
         moved
     }
