@@ -9,4 +9,4 @@ pub mod Seeking
 pub mod Passing
 pub mod Apart
 pub mod Within
-pub mod Held
+pub mod Holding

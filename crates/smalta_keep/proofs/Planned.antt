@@ -1,5 +1,5 @@
 -- What a plan has, and what it tells.
-use Rattle.std.proofs.Common.{◌≡◌, List, [], ◌∷◌, ◌++◌, Bool, true, false, Option, Some, None, refl, sym, ap, subst, ◌∙◌}
+use Rattle.std.proofs.Common.{◌≡◌, List, [], ◌∷◌, ◌++◌, Bool, true, false, Option, Some, None, map, refl, sym, ap, subst, ◌∙◌}
 use Rattle.std.specs.Prelude.{not, option_map, IsSome}
 use Rattle.std.specs.Option.{option_and_then, ForSome}
 use Rattle.table_model.specs.Entries.{Entries, of_family}

@@ -1,6 +1,6 @@
 -- Nodes of a path.
 use Rattle.std.proofs.Common.{◌≡◌, ◌≢◌, ◌-◌, ℕ, List, [], ◌∷◌, ◌||◌, Bool, true, false, nat_eq, Option, Some, None, refl, sym, ap, subst, ◌∙◌}
-use Rattle.std.specs.Prelude.{is_none}
+use Rattle.std.specs.Prelude.{is_some}
 use Rattle.std.specs.Int.{bit_at}
 use Rattle.table_model.specs.Bits.{bits_of}
 use Rattle.table_model.specs.Table.{Table, root, half, cut}
@@ -43,9 +43,9 @@ none_around : (p : List Bool) → NoneAround p []
 none_around [] = tt
 none_around (b ∷ p) = (refl, none_around p)
 
-pub sought_none : (n : Option Walks) (p : List Bool) → is_none n ≡ true → ((behind n).routes ≡ cut p (behind n).routes) × ((behind n).entries ≡ cut p (behind n).entries) × NoneAround p (behind n).entries
+pub sought_none : (n : Option Walks) (p : List Bool) → is_some n ≡ false → ((behind n).routes ≡ cut p (behind n).routes) × ((behind n).entries ≡ cut p (behind n).entries) × NoneAround p (behind n).entries
 sought_none None p e = (sym (cut_nil p), sym (cut_nil p), none_around p)
-sought_none (Some w) p e = let z : false ≡ true = e in absurd cc
+sought_none (Some w) p e = let z : true ≡ false = e in absurd cc
 
 pub found_at : (f : Family) (B P : List Bool) (T M : Table) (E : Entries) → of_table f T ≡ E → B ≡ P → M ≡ cut B T → M ≡ cut P (of_family f E)
 found_at f B P T M E e y m = m ∙ (ap (λ p. cut p T) y ∙ ap (cut P) (sym (family_is f T) ∙ ap (of_family f) e))

@@ -35,16 +35,26 @@ pub fn note(dirty: &mut DirtySet, at: Option<Prefix>, reach: Option<Prefix>, few
     dirty.ease(at);
 }
 
+/// Whether both are one prefix, or there is none.
+fn is_same(held: Option<Prefix>, at: Option<Prefix>) -> bool
+    ensures { result ≡ true → option_map prefix_as held ≡ option_map prefix_as at }
+{
+    match held {
+        Some(held) => at == Some(held),
+        None => at.is_none(),
+    }
+}
+
 /// Whether a plan's changes are those of a repair at the held prefix, which isn't the whole space.
 fn is_made(held: Option<Prefix>, snapshot: bool, fewest: bool, at: Option<Prefix>) -> bool
     ensures snapshot { result ≡ true → snapshot ≡ false }
     ensures fewest { result ≡ true → fewest ≡ false }
-    ensures held { result ≡ true → held ≡ at }
+    ensures held { result ≡ true → option_map prefix_as held ≡ option_map prefix_as at }
 {
     if snapshot || fewest || is_whole(at) {
         return false;
     }
-    held == at
+    is_same(held, at)
 }
 
 /// What is dirty once a plan's changes are made, with this prefix held: where they are those of a repair there, it is as it was

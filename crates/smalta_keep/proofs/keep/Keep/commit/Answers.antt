@@ -1,4 +1,4 @@
-use Rattle.std.proofs.Common.{◌≡◌, List, Some, None, map, sym, ap, subst, ◌∙◌}
+use Rattle.std.proofs.Common.{◌≡◌, List, Some, map, sym, ap, subst, ◌∙◌}
 use Rattle.std.specs.Prelude.{IsSome, is_some, Option, option_map, ◌++◌}
 use Rattle.table_model.specs.Entries.{Entries}
 use Rattle.table_model.specs.Changes.{after_changes}
@@ -13,7 +13,7 @@ use Rattle.smalta_keep.specs.Known.{AreLeftHeld}
 use Rattle.smalta_keep.specs.Plans.{IsRepairPlanned}
 use Rattle.kept_model.specs.Patched.{after_snapshot}
 use Rattle.smalta_keep.proofs.Tables.{some_is}
-use Rattle.smalta_keep.proofs.Held.{held_family, held_reach, known_left}
+use Rattle.smalta_keep.proofs.Holding.{held_family, held_reach, known_left}
 use Rattle.smalta_keep.proofs.Making.{kept_room}
 use Rattle.smalta_keep.proofs.Planned.{first_run, second_run}
 use Rattle.smalta_keep.proofs.keep.Keep.commit.Goals as goal

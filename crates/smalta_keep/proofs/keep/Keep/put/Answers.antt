@@ -1,8 +1,10 @@
-use Rattle.std.proofs.Common.{Some, ◌∙◌}
+use Rattle.std.proofs.Common.{Some, sym, subst, ◌∙◌}
 use Rattle.std.specs.Prelude.{option_map}
 use Rattle.fib_addr.specs.Views.{prefix_as}
-use Rattle.smalta_keep.proofs.Held.{held_family, held_kept}
-use Rattle.smalta_keep.proofs.Knowing.{known_touched, known_planned}
+use Rattle.orig_tree.specs.Views.{Labels}
+use Rattle.smalta_keep.specs.KnownBelow.{IsKnown}
+use Rattle.smalta_keep.proofs.Holding.{held_family, held_kept}
+use Rattle.smalta_keep.proofs.Knowing.{known_more, known_touched, known_planned}
 use Rattle.smalta_keep.proofs.keep.Keep.put.Goals as goal
 
 pub invariant_of-self-then-eq : goal.invariant_of-self-then-eq
@@ -22,3 +24,16 @@ invariant_of-self-else-eq c =
 
 pub keep-requires : goal.keep-requires
 keep-requires c = held_family c.self.inside.held c.self.inside.tree c.self.inside.dirty.tree c.self.invariant
+
+pub invariant_of-self : goal.invariant_of-self
+invariant_of-self c =
+    let k = c.self.inside.tree in
+    let t = c.keep.new.self.tree in
+    known_more k t c.mark.new.self.tree c.mark.ensures.more (held_kept (option_map prefix_as c.self.inside.held) k c.self.inside.dirty.tree t c.keep.ensures c.self.invariant)
+
+pub invariant_of-self-in_err-set : goal.invariant_of-self-in_err-set
+invariant_of-self-in_err-set c =
+    let k = c.self.inside.tree in
+    let t = c.keep.new.self.tree in
+    let u = c.mark.new.self.tree in
+    subst (λ (l : Labels). IsKnown l u) (sym c.in_err-set.ensures.err) (known_more k t u c.mark.ensures.more (held_kept (option_map prefix_as c.self.inside.held) k c.self.inside.dirty.tree t c.keep.ensures c.self.invariant))

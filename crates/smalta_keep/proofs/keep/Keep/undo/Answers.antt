@@ -1,7 +1,7 @@
 use Rattle.std.proofs.Common.{◌∙◌}
 use Rattle.std.specs.Prelude.{option_map}
 use Rattle.fib_addr.specs.Views.{prefix_as}
-use Rattle.smalta_keep.proofs.Held.{held_family, held_kept}
+use Rattle.smalta_keep.proofs.Holding.{held_family, held_kept}
 use Rattle.smalta_keep.proofs.Knowing.{known_undone, former_places}
 use Rattle.smalta_keep.proofs.keep.Keep.undo.Goals as goal
 

@@ -1,5 +1,5 @@
 -- What is known while a plan's prefix is held.
-use Rattle.std.proofs.Common.{◌≡◌, ◌⊎◌, List, [], ◌∷◌, Bool, true, false, Option, Some, None, refl, sym, ap, subst, ◌∙◌, inl, inr}
+use Rattle.std.proofs.Common.{◌≡◌, ◌⊎◌, ℕ, List, [], ◌∷◌, Bool, true, false, Option, Some, None, refl, sym, ap, subst, ◌∙◌, inl, inr}
 use Rattle.std.specs.Prelude.{option_map}
 use Rattle.std.specs.Option.{ForSome}
 use Rattle.table_model.specs.Bits.{same_bits}
@@ -19,7 +19,7 @@ use Rattle.fib_addr.specs.declared.prefix.Prefix as code_prefix
 use Rattle.fib_addr.specs.declared.entry.Hop as code_hop
 use Rattle.orig_tree.specs.Views.{Labels, InPlace}
 use Rattle.smalta_keep.specs.KnownBelow.{IsSettled, IsKnown}
-use Rattle.smalta_keep.specs.Known.{IsOfFamily, IsTouchedAt, IsEased, AreWide, AreNoted, AreLeft, AreLeftHeld, KnownAt, IsKnownHeld, StaysAt, SameBeside, held_place}
+use Rattle.smalta_keep.specs.Known.{IsOfFamily, IsTouchedAt, IsEased, AreWide, AreNoted, AreLeftHeld, KnownAt, IsKnownHeld, StaysAt, SameBeside, held_place}
 use Rattle.smalta_keep.specs.Views.{with_planned, place_in}
 use Rattle.smalta_keep.proofs.Knowing.{beside_planned, known_after, known_made, known_planned, known_wide, more_at, more_both, touched_both}
 
@@ -34,6 +34,9 @@ same_or p r = by_test (same_bits r p) refl
     by_test : (b : Bool) → same_bits r p ≡ b → (r ≡ p) ⊎ (r ≡ p → ⊥)
     by_test true e = inl (same_bits_are r p e)
     by_test false e = inr (λ i. let z : true ≡ false = sym (ap (λ q. same_bits q p) i ∙ same_bits_itself p) ∙ e in absurd cc)
+
+some_none : (h : ℕ) → Some h ≡ None → ⊥
+some_none h e = cc
 
 -- p has a wide mark before all others
 abbrev first_marked : List Bool → Table → Table
@@ -65,7 +68,7 @@ first_marks p T = record {
     is_here r i = ap (λ q. entry_at q (first_marked p T)) i ∙ first_here p T
 
     there : (r : List Bool) → (r ≡ p) ⊎ (r ≡ p → ⊥) → entry_at r (first_marked p T) ≡ None → entry_at r T ≡ None
-    there r (inl i) e = let z : Some 1 ≡ None = sym (is_here r i) ∙ e in absurd cc
+    there r (inl i) e = absurd (some_none 1 (sym (is_here r i) ∙ e))
     there r (inr n) e = sym (first_else p r T n) ∙ e
 
     wide : (r : List Bool) → (r ≡ p) ⊎ (r ≡ p → ⊥) → is_wide_mark (entry_at r (first_marked p T)) ≡ false → is_wide_mark (entry_at r T) ≡ false
