@@ -9,3 +9,4 @@ pub mod Seeking
 pub mod Passing
 pub mod Apart
 pub mod Within
+pub mod Holding

@@ -1,11 +1,11 @@
 -- What a plan has, and what it tells.
-use Rattle.std.proofs.Common.{◌≡◌, List, [], ◌∷◌, ◌++◌, Bool, true, false, Option, Some, None, refl, sym, ap, subst, ◌∙◌}
+use Rattle.std.proofs.Common.{◌≡◌, List, [], ◌∷◌, ◌++◌, Bool, true, false, Option, Some, None, map, refl, sym, ap, subst, ◌∙◌}
 use Rattle.std.specs.Prelude.{not, option_map, IsSome}
 use Rattle.std.specs.Option.{option_and_then, ForSome}
 use Rattle.table_model.specs.Entries.{Entries, of_family}
 use Rattle.table_model.specs.Changes.{Change, after_change, after_changes}
 use Rattle.kept_model.specs.Between.{between}
-use Rattle.kept_model.proofs.Alike.{made_placed}
+use Rattle.kept_model.proofs.Alike.{made_placed, none_between}
 use Rattle.table_model.specs.Address.{Prefix}
 use Rattle.fib_addr.specs.Views.{prefix_as}
 use Rattle.fib_addr.specs.declared.prefix.Prefix as code_prefix
@@ -28,7 +28,10 @@ use Rattle.smalta_keep.specs.Routes.{HasFormer, former_in, former_place, undone_
 use Rattle.smalta_keep.specs.Plans.{IsMend, IsMoved, IsRouteSet, RoutesStay, IsRepairPlanned, Tells, IsBeforeAt, some_or, mended, repaired_table, planned_table}
 use Rattle.smalta_keep.specs.Views.{moved_of, repair_as, snapshot_as, with_planned, place_in}
 use Rattle.orig_tree.specs.Walk.{has_node}
-use Rattle.smalta_keep.specs.Rooms.{IsNodeAt, KeepsEntries}
+use Rattle.smalta_keep.specs.Known.{SameBeside, StaysAt}
+use Rattle.smalta_keep.specs.Rooms.{AreOf, HaveRoom, IsNodeAt, KeepsEntries}
+use Rattle.fib_delta.specs.declared.change.Change as code
+use Rattle.fib_delta.specs.Views.{change_as}
 
 abbrev Route : Type 0
 Route = Option (code_prefix.Prefix × code_hop.Hop)
@@ -164,3 +167,33 @@ planned kept fewest at due r i h = record {
   settled = λ e. i.settled (sym i.is_fewest ∙ e);
   former = h;
 }
+
+-- ---- a plan that changes nothing
+
+pub nothing_planned : (k : Labels) (r : Repair) → r.former ≡ None → r.reach ≡ None → r.due ≡ false → r.moved.repair.items ≡ [] → r.moved.snapshot.items ≡ [] → IsRepairPlanned k r
+nothing_planned k r a b d e f = record {
+  repair_of = subst (λ (cs : List code.Change). AreOf k.family (map change_as cs)) (sym e) tt;
+  snapshot_of = subst (λ (cs : List code.Change). AreOf k.family (map change_as cs)) (sym f) tt;
+  reach_of = subst (λ (o : Option code_prefix.Prefix). ForSome o (λ p. p.family ≡ k.family)) (sym b) (λ p s. cc);
+  repair_room = subst (λ (cs : List code.Change). HaveRoom k.nodes (map change_as cs)) (sym e) tt;
+  snapshot_room = subst (λ (cs : List code.Change). HaveRoom k.nodes (map change_as cs)) (sym f) tt;
+  repaired = k.entries;
+  beside = subst (λ (o : Option code_prefix.Prefix). SameBeside (option_map prefix_as o) k.family k.entries k.entries) (sym b) refl;
+  makes = subst (λ (cs : List code.Change). after_changes (map change_as cs ++ map change_as r.moved.snapshot.items) k.entries ≡ Some (after_snapshot k.family k.routes r.due k.entries)) (sym e)
+      (subst (λ (cs : List code.Change). after_changes (map change_as cs) k.entries ≡ Some (after_snapshot k.family k.routes r.due k.entries)) (sym f) (ap (λ (due : Bool). Some (after_snapshot k.family k.routes due k.entries)) (sym d)));
+  settled = λ w. subst (λ (o : Option code_prefix.Prefix). StaysAt (option_map prefix_as o) k.family k.routes k.entries) (sym b) tt;
+  former = subst (λ (o : Option Former). HasFormer k o) (sym a) tt;
+}
+
+pub nothing_told : (k : Labels) (fewest : Bool) (route : Route) (due : Bool) (r : Repair) → route ≡ None → due ≡ false → r.moved.repair.items ≡ [] → r.moved.snapshot.items ≡ [] → Tells k fewest (place_in route) due r.moved
+nothing_told k fewest route due r n d e f = subst (λ (o : Route). Tells k fewest (place_in o) due r.moved) (sym n) (subst (λ (b : Bool). Tells k fewest None b r.moved) (sym d) (here fewest))
+  where
+    none : (cs : List code.Change) → cs ≡ [] → map change_as cs ≡ between k.entries k.entries
+    none cs i = ap (map change_as) i ∙ sym (none_between k.entries)
+
+    makes : after_changes (map change_as r.moved.repair.items ++ map change_as r.moved.snapshot.items) k.entries ≡ Some k.entries
+    makes = subst (λ (cs : List code.Change). after_changes (map change_as cs ++ map change_as r.moved.snapshot.items) k.entries ≡ Some k.entries) (sym e) (subst (λ (cs : List code.Change). after_changes (map change_as cs) k.entries ≡ Some k.entries) (sym f) refl)
+
+    here : (fewest : Bool) → Tells k fewest None false r.moved
+    here true = record { repair = none r.moved.repair.items e; snapshot = none r.moved.snapshot.items f; makes = makes }
+    here false = record { repair = none r.moved.repair.items e; snapshot = none r.moved.snapshot.items f; makes = makes }

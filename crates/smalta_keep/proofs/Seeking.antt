@@ -1,12 +1,15 @@
 -- Nodes of a path.
-use Rattle.std.proofs.Common.{◌≡◌, ◌≢◌, ◌-◌, ℕ, List, [], ◌||◌, Bool, true, false, nat_eq, refl, sym, ap, subst, ◌∙◌}
+use Rattle.std.proofs.Common.{◌≡◌, ◌≢◌, ◌-◌, ℕ, List, [], ◌∷◌, ◌||◌, Bool, true, false, nat_eq, Option, Some, None, refl, sym, ap, subst, ◌∙◌}
+use Rattle.std.specs.Prelude.{is_some}
 use Rattle.std.specs.Int.{bit_at}
 use Rattle.table_model.specs.Bits.{bits_of}
 use Rattle.table_model.specs.Table.{Table, root, half, cut}
 use Rattle.table_model.specs.declared.family.Family.{Family}
 use Rattle.table_model.specs.Entries.{Entries, of_family, of_table}
 use Rattle.table_model.proofs.Both.{family_is}
+use Rattle.table_model.proofs.Same.{cut_nil}
 use Rattle.kept_model.specs.Stays.{is_wide_mark, NoneAround}
+use Rattle.orig_tree.specs.Walk.{Walks, behind}
 use Rattle.orig_tree.proofs.Paths.{no_bits, first_bit}
 use Rattle.smalta_keep.specs.Places.{IsUnmarked}
 
@@ -34,6 +37,15 @@ pub around_step : (left q : ℕ) (b : Bool) (M N : Table) (m w : Bool) → left 
 around_step left q b M N m w n e u v x =
     let y = neither m (is_wide_mark (root M)) (sym v ∙ x.0) in
     (y.0, subst (λ (p : List Bool). NoneAround p M) (sym (first_bit left q b n e)) (y.1, subst (λ (T : Table). NoneAround (bits_of (left - 1) q) T) u x.1))
+
+-- without a node there is nothing on the rest of the way
+none_around : (p : List Bool) → NoneAround p []
+none_around [] = tt
+none_around (b ∷ p) = (refl, none_around p)
+
+pub sought_none : (n : Option Walks) (p : List Bool) → is_some n ≡ false → ((behind n).routes ≡ cut p (behind n).routes) × ((behind n).entries ≡ cut p (behind n).entries) × NoneAround p (behind n).entries
+sought_none None p e = (sym (cut_nil p), sym (cut_nil p), none_around p)
+sought_none (Some w) p e = let z : true ≡ false = e in absurd cc
 
 pub found_at : (f : Family) (B P : List Bool) (T M : Table) (E : Entries) → of_table f T ≡ E → B ≡ P → M ≡ cut B T → M ≡ cut P (of_family f E)
 found_at f B P T M E e y m = m ∙ (ap (λ p. cut p T) y ∙ ap (cut P) (sym (family_is f T) ∙ ap (of_family f) e))

@@ -3,11 +3,11 @@ use Rattle.std.specs.Prelude.{◌≡◌, ◌-◌, ◌⊎◌, [], Bool, true, fal
 use Rattle.table_model.specs.Address.{Prefix}
 use Rattle.table_model.specs.declared.family.Family.{Family}
 use Rattle.table_model.specs.Width.{width}
-use Rattle.table_model.specs.Table.{cut}
+use Rattle.table_model.specs.Table.{Table, cut}
 use Rattle.table_model.specs.Entries.{Entries, of_family}
 use Rattle.table_model.specs.Regions.{above, entry_at, SameOutside}
 use Rattle.table_model.specs.Sets.{answers}
-use Rattle.kept_model.specs.Stays.{Stays, is_wide_mark, HasMarks, IsMarked, GetsMark}
+use Rattle.kept_model.specs.Stays.{Stays, Settled, is_wide_mark, HasMarks, IsMarked, GetsMark}
 use Rattle.orig_tree.specs.Views.{Labels}
 use Rattle.smalta_keep.specs.KnownBelow.{IsSettled, IsKnown, IsKnownBefore}
 
@@ -60,6 +60,33 @@ abbrev pub AreLeft : Bool → Bool → Family → Option Prefix → Option Label
 AreLeft true fewest f at old new = IsOfFamily f new
 AreLeft false true f at old new = IsTouchedAt at old new
 AreLeft false false f at old new = IsEasedAt at old new ⊎ (IsWholeSpace at × IsOfFamily f new)
+
+-- the prefix that is held once a plan is made: the plan's own, unless a snapshot follows or the changes are to be the fewest
+abbrev pub held_place : {A : Type 0} → Bool → Bool → Option A → Option A
+held_place true fewest at = None
+held_place false true at = None
+held_place false false at = at
+
+-- what a plan leaves: what was marked still is and its prefix, if it has one, is marked wide; or, where it is held, it is marked
+abbrev pub AreNoted : Bool → Bool → Option Prefix → Option Labels → Option Labels → Type 0
+AreNoted true fewest at old new = AreWide at old new
+AreNoted false true at old new = AreWide at old new
+AreNoted false false at old new = IsEasedAt at old new
+
+-- what making a plan's changes leaves where a prefix was held: if they are those of a repair there all stays, else it was marked
+-- wide first
+abbrev pub AreLeftHeld : Bool → Bool → Family → Option Prefix → Option Prefix → Option Labels → Option Labels → Type 0
+AreLeftHeld due fewest f at held old new =
+    ((mid : Option Labels) × IsTouchedAt held old mid × AreLeft due fewest f at mid new)
+    ⊎ ((due ≡ false) × (fewest ≡ false) × (held ≡ at) × (new ≡ old))
+
+-- what is off the dirty prefixes is clean, where a prefix that is held, if there is one, counts as one of them in any way that serves
+abbrev pub IsKnownHeld : Option Prefix → Labels → Option Labels → Type 0
+IsKnownHeld None kept touched = IsKnown kept touched
+IsKnownHeld (Some p) kept None = Unit {0}
+IsKnownHeld (Some p) kept (Some n) =
+    (n.family ≡ kept.family) × (p.family ≡ kept.family) × (M : Table) × GetsMark p.bits M (of_family kept.family n.entries)
+    × Settled (width kept.family) (answers (of_family kept.family kept.routes) []) (of_family kept.family kept.entries) 0 M
 
 -- p is marked wide, and what is off the dirty prefixes is clean; without p, the latter
 abbrev pub KnownAt : Option Prefix → Labels → Option Labels → Type 0

@@ -75,7 +75,7 @@ fn mark_in(dirty: &mut Option<Tree>, prefix: &Prefix) -> Result<(), AllocError>
 }
 
 /// Whether there is a prefix, and it is the whole space.
-fn is_whole(at: Option<Prefix>) -> bool
+pub fn is_whole(at: Option<Prefix>) -> bool
     ensures { result ≡ true → IsWholeSpace (option_map prefix_as at) }
 {
     match at {
@@ -150,7 +150,7 @@ impl DirtySet {
     }
 
     /// Makes the dirty prefix of a prefix, if there is one, a dirty prefix that isn't wide. It takes no memory where the prefix is marked.
-    fn ease(&mut self, at: Option<Prefix>)
+    pub fn ease(&mut self, at: Option<Prefix>)
         requires { ForSome at (λ p. IsOfFamily p.family self.old.tree) }
         ensures { IsEasedAt (option_map prefix_as at) self.old.tree self.new.tree }
     {

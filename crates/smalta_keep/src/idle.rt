@@ -9,7 +9,7 @@ ghost use Rattle.smalta_keep.specs.Rooms.{AreOf, ChangesNodes};
 use crate::node_at;
 use fib_addr::Prefix;
 use fib_delta::Change;
-use orig_tree::Tree;
+use orig_tree::{Label, NodeRef, Tree};
 
 /// The prefix of an entry that a change takes away where it was made, or would have added where it wasn't.
 fn place_left(change: &Change, made: bool) -> Option<Prefix>
@@ -31,12 +31,20 @@ pub fn trim_at(tree: &mut Tree, prefix: Option<Prefix>)
     }
 }
 
-/// Whether a prefix is a node with none below it.
-fn is_last(tree: &Tree, prefix: &Prefix) -> bool
+/// Whether a node has no label of its own and none below it.
+fn is_idle(node: &NodeRef<'_>) -> bool {
+    node.hop(Label::Route).is_none()
+        && node.hop(Label::Entry).is_none()
+        && node.half(false).is_none()
+        && node.half(true).is_none()
+}
+
+/// Whether a prefix is a node that nothing uses, with none below it.
+fn is_left(tree: &Tree, prefix: &Prefix) -> bool
     requires { prefix.now.family ≡ tree.now.family }
 {
     match node_at(tree, prefix) {
-        Some(node) => node.half(false).is_none() && node.half(true).is_none(),
+        Some(node) => is_idle(&node),
         None => false,
     }
 }
@@ -47,9 +55,19 @@ pub fn trim_last(tree: &mut Tree, prefix: Option<Prefix>)
     ensures { ChangesNodes tree.old tree.new }
 {
     if let Some(prefix) = prefix
-        && is_last(tree, &prefix)
+        && is_left(tree, &prefix)
     {
         tree.trim(&prefix);
+    }
+}
+
+/// The same where the prefix's route was taken away: one that has a route is used.
+pub fn trim_cleared(tree: &mut Tree, prefix: Option<Prefix>, cleared: bool)
+    requires { ForSome prefix (λ p. p.family ≡ tree.old.family) }
+    ensures { ChangesNodes tree.old tree.new }
+{
+    if cleared {
+        trim_last(tree, prefix);
     }
 }
 

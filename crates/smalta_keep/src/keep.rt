@@ -1,6 +1,6 @@
 //! The kept table.
 
-ghost use Rattle.std.specs.Prelude.{◌≡◌, ◌≤◌, filter, ◌∷◌, ◌++◌, [], Some, IfOk, OnOk, OnErr, map};
+ghost use Rattle.std.specs.Prelude.{◌≡◌, ◌≤◌, filter, ◌∷◌, ◌++◌, [], true, false, Some, None, IfOk, OnOk, OnErr, map};
 ghost use Rattle.std.specs.Option.{ForSome};
 ghost use Rattle.std.specs.List.{AllByRecursion};
 ghost use Rattle.table_model.specs.Address.{same_family};
@@ -21,7 +21,8 @@ ghost use Rattle.smalta_keep.specs.Answers.{IsAlike, IsAlikeFor, IsLeast, IsFewe
 
 use crate::dirty::DirtySet;
 use crate::entries::apply_all;
-use crate::idle::{trim_at, trim_last, trim_left};
+use crate::held::{leave, prefix_held};
+use crate::idle::{trim_at, trim_cleared, trim_last, trim_left};
 use crate::plan::{Due, plan_moves};
 use crate::repair::{Moved, Repair};
 use crate::routes::{former_prefix, planned_prefix, put_back_planned, set};
@@ -40,17 +41,29 @@ pub struct Keep {
     alloc: Global,
     tree: Tree,
     dirty: DirtySet,
+    // the prefix of the plan that is to be committed or undone, where it counts as wide dirty meanwhile
+    held: Option<Prefix>,
 }
 
 impl Model for Keep {
     ghost use Rattle.orig_tree.specs.Views.{Labels};
-    ghost use Rattle.smalta_keep.specs.KnownBelow.{IsKnown};
+    ghost use Rattle.std.specs.Prelude.{option_map};
+    ghost use Rattle.fib_addr.specs.Views.{prefix_as};
+    ghost use Rattle.smalta_keep.specs.Known.{IsKnownHeld};
 
     ghost Value = { Labels };
 
     ghost view = { λ k. k.tree };
 
-    ghost invariant = { λ k. IsKnown k.tree k.dirty.tree };
+    ghost invariant = { λ k. IsKnownHeld (option_map prefix_as k.held) k.tree k.dirty.tree };
+}
+
+/// Whether a plan with this route, if it has one, changes nothing.
+fn changes_nothing(route: Option<(Prefix, Hop)>, snapshot: bool) -> bool
+    ensures route { result ≡ true → route ≡ None }
+    ensures snapshot { result ≡ true → snapshot ≡ false }
+{
+    route.is_none() && !snapshot
 }
 
 impl Keep {
@@ -68,6 +81,7 @@ impl Keep {
             alloc,
             tree: Tree::new(alloc, family),
             dirty: DirtySet::all(),
+            held: None,
         }
     }
 
@@ -89,6 +103,7 @@ impl Keep {
             alloc,
             tree,
             dirty: DirtySet::all(),
+            held: None,
         })
     }
 
@@ -115,6 +130,7 @@ impl Keep {
             alloc: self.alloc,
             tree,
             dirty,
+            held: None,
         };
         Ok((keep, least))
     }
@@ -134,6 +150,8 @@ impl Keep {
     {
         // the routes stand in order
         let _family = self.tree.family();
+        self.dirty.keep(self.held);
+        self.held = None;
         self.dirty.mark(prefix)?;
         set(&mut self.tree, prefix, hop)?;
         if hop == Hop::NONE {
@@ -168,12 +186,21 @@ impl Keep {
     {
         // the routes stand in order
         let _family = self.tree.family();
-        self.dirty.expect(planned_prefix(route));
+        if changes_nothing(route, snapshot) {
+            return Ok(Repair::nothing(self.alloc, fewest));
+        }
+        let at = planned_prefix(route);
+        self.dirty.keep(self.held);
+        self.held = None;
+        self.dirty.expect(at);
         let due = Due { fewest, snapshot };
         match plan_moves(self.alloc, &mut self.tree, &mut self.dirty, route, due) {
-            Ok(repair) => Ok(repair),
+            Ok(repair) => {
+                self.held = prefix_held(at, snapshot, fewest);
+                Ok(repair)
+            }
             Err(failed) => {
-                trim_at(&mut self.tree, planned_prefix(route));
+                trim_at(&mut self.tree, at);
                 Err(failed)
             }
         }
@@ -193,13 +220,23 @@ impl Keep {
         let reach = repair.reach;
         let due = repair.due;
         let fewest = repair.fewest;
+        let cleared = repair.cleared;
         let moved = repair.moved;
         apply_all(&mut self.tree, &moved.repair);
         apply_all(&mut self.tree, &moved.snapshot);
-        trim_last(&mut self.tree, at);
+        trim_cleared(&mut self.tree, at, cleared);
         trim_left(&mut self.tree, &moved.repair, true);
         trim_left(&mut self.tree, &moved.snapshot, true);
-        self.dirty.leave(self.alloc, family, due, fewest, reach);
+        leave(
+            &mut self.dirty,
+            self.held,
+            self.alloc,
+            family,
+            due,
+            fewest,
+            reach,
+        );
+        self.held = None;
         moved
     }
 
@@ -217,6 +254,8 @@ impl Keep {
         trim_last(&mut self.tree, former_prefix(&repair.former));
         trim_left(&mut self.tree, &repair.moved.repair, false);
         trim_left(&mut self.tree, &repair.moved.snapshot, false);
+        self.dirty.keep(self.held);
+        self.held = None;
         self.dirty.keep(former_prefix(&repair.former));
     }
 

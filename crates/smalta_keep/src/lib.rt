@@ -19,6 +19,7 @@
 mod back;
 mod dirty;
 mod entries;
+mod held;
 mod idle;
 mod keep;
 mod pass;

@@ -120,19 +120,23 @@ fn is_unmarked(node: &Option<NodeRef<'_>>) -> bool
 }
 
 /// The node of a path of `left` bits below one, if there are such, and whether a wide dirty prefix is on the way to it, or already was.
-pub fn seek<'a>(node: Option<NodeRef<'a>>, q: u128, left: u8, marked: bool) -> Found<'a>
+/// It ends at the last node on the way.
+pub fn seek<'a>(mut node: Option<NodeRef<'a>>, q: u128, mut left: u8, mut marked: bool) -> Found<'a>
     requires { left ≤ 128 }
     ensures routes { (behind result.node).routes ≡ cut (bits_of left q) (behind node.entry).routes }
     ensures entries { (behind result.node).entries ≡ cut (bits_of left q) (behind node.entry).entries }
     ensures marked { result.marked ≡ false
         → (marked ≡ false) × NoneAround (bits_of left q) (behind node.entry).entries }
 {
-    if left == 0 {
-        return Found { node, marked };
+    while left > 0 {
+        if node.is_none() {
+            return Found { node, marked };
+        }
+        left -= 1;
+        marked = meets_wide(&node, marked);
+        node = half_of(&node, bit_at(q, left));
     }
-    let at = left - 1;
-    let met = meets_wide(&node, marked);
-    seek(half_of(&node, bit_at(q, at)), q, at, met)
+    Found { node, marked }
 }
 
 /// The node of a prefix in a tree, if it is one.

@@ -13,15 +13,16 @@ ghost use Rattle.fib_delta.specs.Views.{change_as};
 ghost use Rattle.smalta_keep.specs.Rooms.{AreOf, HaveRoom, KeepsEntries};
 ghost use Rattle.smalta_keep.specs.Routes.{HasFormer, former_place, undone_in};
 ghost use Rattle.smalta_keep.specs.KnownBelow.{IsKnown};
-ghost use Rattle.smalta_keep.specs.Known.{KnownAt, IsKnownToMend, AreMore, AreWide};
+ghost use Rattle.smalta_keep.specs.Known.{KnownAt, IsKnownToMend, AreMore, AreNoted};
 ghost use Rattle.smalta_keep.specs.Answers.{IsAlikeFor};
 ghost use Rattle.smalta_keep.specs.Plans.{IsBeforeAt, IsMend, IsMoved, IsRouteSet, RoutesStay, mended, repaired_table};
 ghost use Rattle.smalta_keep.specs.Views.{place_in};
 
 use crate::dirty::DirtySet;
 use crate::entries::{apply_all, are_at, make_room};
+use crate::held::note;
 use crate::repair::{Moved, Repair};
-use crate::routes::{Former, former_prefix, planned_prefix, put_back_planned, set_planned};
+use crate::routes::{Former, clears, former_prefix, planned_prefix, put_back_planned, set_planned};
 use crate::snapshot_delta;
 use crate::told::{Mend, mend_at};
 use fib_addr::{Hop, Prefix};
@@ -153,32 +154,37 @@ pub fn plan_moves(
     requires known { IsKnown tree.old dirty.old.tree }
     requires alike { IsAlikeFor due.fewest route tree.old }
     ensures keeps { KeepsEntries tree.old tree.new }
-    ensures dirty { AreMore dirty.old.tree dirty.new.tree }
-    ensures marked { OnOk result (AreWide (place_in route) dirty.old.tree dirty.new.tree) }
+    ensures dirty { OnErr result (AreMore dirty.old.tree dirty.new.tree) }
+    ensures marked { OnOk result (AreNoted due.snapshot due.fewest (place_in route) dirty.old.tree
+        dirty.new.tree) }
     ensures set { IfOk result (λ r. IsRouteSet route tree.old.routes tree.new r.former) }
     ensures moved { IfOk result (λ r. IsMoved tree.new due.fewest (place_in route) due.snapshot r) }
     ensures err { OnErr result (tree.new.routes ≡ tree.old.routes) }
 {
     // the routes stand in order
     let _family = tree.family();
+    let at = planned_prefix(route);
+    let cleared = clears(route);
     let former = set_planned(tree, route)?;
     let mend = mend_set(alloc, tree, &dirty.tree, former, due.fewest, due.snapshot)?;
-    dirty.keep(planned_prefix(route));
-    dirty.keep(mend.reach);
     let former = with_room(tree, route, former, &mend.there)?;
     if !due.snapshot {
+        note(dirty, at, mend.reach, due.fewest);
         let moved = Moved {
             repair: mend.there,
             snapshot: Vec::new(alloc),
         };
         return Ok(Repair {
             former,
+            cleared,
             reach: mend.reach,
             due: due.snapshot,
             fewest: due.fewest,
             moved,
         });
     }
+    dirty.keep(at);
+    dirty.keep(mend.reach);
     let former = with_room(tree, route, former, &mend.back)?;
     let changes = snapshot_after(alloc, tree, &dirty.tree, former, &mend)?;
     let former = with_room(tree, route, former, &changes)?;
@@ -188,6 +194,7 @@ pub fn plan_moves(
     };
     Ok(Repair {
         former,
+        cleared,
         reach: mend.reach,
         due: due.snapshot,
         fewest: due.fewest,

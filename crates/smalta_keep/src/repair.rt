@@ -1,11 +1,12 @@
 //! What a plan tells and keeps.
 
-ghost use Rattle.std.specs.Prelude.{◌≡◌};
+ghost use Rattle.std.specs.Prelude.{◌≡◌, [], false, None};
 ghost use Rattle.smalta_keep.specs.Views.{moved_of};
 
 use crate::routes::Former;
 use fib_addr::Prefix;
 use fib_delta::Change;
+use std::alloc::Global;
 
 /// The changes of a repair, and those of the snapshot after it; each in the order of prefixes.
 #[derive(Debug, Drop)]
@@ -20,6 +21,8 @@ pub struct Moved {
 #[derive(Debug, Drop)]
 pub struct Repair {
     pub(crate) former: Option<Former>,
+    /// Whether the prefix of that route has none from now on.
+    pub(crate) cleared: bool,
     /// The prefix that all changes of the repair are within, if there is one.
     pub(crate) reach: Option<Prefix>,
     /// Whether a snapshot is due.
@@ -30,6 +33,27 @@ pub struct Repair {
 }
 
 impl Repair {
+    /// A plan that changes nothing.
+    pub(crate) fn nothing(alloc: Global, fewest: bool) -> Repair
+        ensures former { result.former ≡ None }
+        ensures reach { result.reach ≡ None }
+        ensures due { result.due ≡ false }
+        ensures repair { result.moved.repair.items ≡ [] }
+        ensures snapshot { result.moved.snapshot.items ≡ [] }
+    {
+        Repair {
+            former: None,
+            cleared: false,
+            reach: None,
+            due: false,
+            fewest,
+            moved: Moved {
+                repair: Vec::new(alloc),
+                snapshot: Vec::new(alloc),
+            },
+        }
+    }
+
     /// The changes that it will make.
     pub fn moved(&self) -> &Moved
         ensures { result.now ≡ moved_of self.now }

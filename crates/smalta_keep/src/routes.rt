@@ -120,6 +120,14 @@ pub fn planned_prefix(route: Option<(Prefix, Hop)>) -> Option<Prefix>
     }
 }
 
+/// Whether a plan takes its prefix's route away.
+pub fn clears(route: Option<(Prefix, Hop)>) -> bool {
+    match route {
+        Some((_, hop)) => hop == Hop::NONE,
+        None => false,
+    }
+}
+
 /// The prefix of the route that a plan set.
 pub fn former_prefix(former: &Option<Former>) -> Option<Prefix>
     ensures { result ≡ option_map (λ f. f.prefix) former.now }

@@ -1,4 +1,4 @@
-use Rattle.std.proofs.Common.{List, Bool, Option, None, map, refl, sym, ap, subst, ◌∙◌}
+use Rattle.std.proofs.Common.{List, Bool, false, Option, None, map, refl, sym, ap, subst, ◌∙◌}
 use Rattle.std.specs.Prelude.{option_map}
 use Rattle.table_model.specs.declared.family.Family.{Family}
 use Rattle.kept_model.proofs.Alike.{none_between}
@@ -15,7 +15,7 @@ use Rattle.smalta_keep.proofs.Making.{kept_room}
 use Rattle.smalta_keep.proofs.Tables.{renewed_placed}
 use Rattle.smalta_keep.proofs.Planned.{is_off, is_on, places, set_over, set_room, set_still, mend_there, mended_is, repaired_there, renewed_there, before_set}
 use Rattle.table_model.specs.Address.{Prefix}
-use Rattle.smalta_keep.specs.Known.{IsKnownToMend, IsTouchedAt}
+use Rattle.smalta_keep.specs.Known.{AreNoted, IsKnownToMend, IsTouchedAt}
 use Rattle.smalta_keep.proofs.Knowing.{known_at, known_more, known_planned, known_to_mend, reach_family, more_at, marked_twice}
 use Rattle.smalta_keep.proofs.Settled.{route_family, family_of, settled_moves}
 use Rattle.smalta_keep.proofs.plan.plan_moves.Goals as goal
@@ -37,13 +37,13 @@ mend_set-requires-clause-known c =
 pub keep-requires : goal.keep-requires
 keep-requires c =
     let k0 = c.args.tree.now in
-    reach_family c.planned_prefix.result None k0 c.args.dirty.now.tree (route_family c.args.route c.planned_prefix.result k0.family c.planned_prefix.ensures c.requires.family) c.requires.known
+    reach_family c.planned_prefix-at.result None k0 c.args.dirty.now.tree (route_family c.args.route c.planned_prefix-at.result k0.family c.planned_prefix-at.ensures c.requires.family) c.requires.known
 
 pub keep-requires-2 : goal.keep-requires-2
 keep-requires-2 c =
     let k0 = c.args.tree.now in
     reach_family c.in_ok-mend.mend.reach None k0 c.keep.new.self.tree (λ p s. c.in_ok-mend.ensures.mend.of_reach p s ∙ c.set_planned.ensures.keeps.family)
-    (known_more k0 c.args.dirty.now.tree c.keep.new.self.tree (more_at (option_map prefix_as c.planned_prefix.result) c.args.dirty.now.tree c.keep.new.self.tree c.keep.ensures) c.requires.known)
+    (known_more k0 c.args.dirty.now.tree c.keep.new.self.tree (more_at (option_map prefix_as c.planned_prefix-at.result) c.args.dirty.now.tree c.keep.new.self.tree c.keep.ensures) c.requires.known)
 
 pub returns-then-not-due-clause-moved : goal.returns-then-not-due-clause-moved
 returns-then-not-due-clause-moved c =
@@ -62,8 +62,8 @@ returns-then-not-due-clause-moved c =
     let entries = c.with_room.ensures.keeps.entries ∙ c.mend_set.ensures.keeps.entries in
     let same = ap (repaired_table fewest k1) s1.place ∙ repaired_there fewest k1 k3 at family (s3.routes ∙ sym s1.routes) entries in
     let m = mend_there k1.family k3.family k1.entries k3.entries (repaired_table fewest k1 (former_place f1)) (repaired_table fewest k3 at) c.args.due.snapshot mend (sym family) (sym entries) same c.in_ok-mend.ensures.mend in
-    let r : Repair = record { former = c.in_ok-former-2.former; reach = mend.reach; due = c.args.due.snapshot; fewest = fewest; moved = record { repair = mend.there; snapshot = c.new.result } } in
-    subst (λ (due : Bool). IsMoved k3 fewest at due (record { former = r.former; reach = r.reach; due = due; fewest = r.fewest; moved = r.moved })) (sym (is_off c.args.due.snapshot c.if-not-due.true))
+    let r : Repair = record { former = c.in_ok-former-2.former; cleared = c.clears-cleared.result; reach = mend.reach; due = c.args.due.snapshot; fewest = fewest; moved = record { repair = mend.there; snapshot = c.new.result } } in
+    subst (λ (due : Bool). IsMoved k3 fewest at due (record { former = r.former; cleared = r.cleared; reach = r.reach; due = due; fewest = r.fewest; moved = r.moved })) (sym (is_off c.args.due.snapshot c.if-not-due.true))
     (record {
       is_due = refl;
       is_fewest = refl;
@@ -95,7 +95,7 @@ snapshot_after-requires-clause-known c =
     let s3 = set_over route (undone_in f1 k2.routes) k0.routes k3 f2 (ap (λ (k : Labels). undone_in f1 k.routes) c.in_ok-mend.ensures.still ∙ s1.undone) c.in_ok-former-2.ensures.set in
     let s4 = set_room route k0.routes k3 k4 f2 f3 s3 c.in_ok-former-3.ensures.set in
     let t = c.keep.new.self.tree in
-    let touched = subst (λ (a : Option Prefix). IsTouchedAt a c.args.dirty.now.tree t) (places route c.planned_prefix.result c.planned_prefix.ensures) c.keep.ensures in
+    let touched = subst (λ (a : Option Prefix). IsTouchedAt a c.args.dirty.now.tree t) (places route c.planned_prefix-at.result c.planned_prefix-at.ensures) c.keep.ensures in
     known_at (option_map prefix_as c.in_ok-mend.mend.reach) k4 t c.keep-2.new.self.tree c.keep-2.ensures
     (known_planned route k0 k4 t c.family-family.ensures.order.0 (known_at (place_in route) k0 c.args.dirty.now.tree t touched c.requires.known) (c.with_room-2.ensures.keeps.family ∙ (c.with_room.ensures.keeps.family ∙ (c.mend_set.ensures.keeps.family ∙ c.set_planned.ensures.keeps.family))) s4.routes
     (c.with_room-2.ensures.keeps.entries ∙ (c.with_room.ensures.keeps.entries ∙ (c.mend_set.ensures.keeps.entries ∙ c.set_planned.ensures.keeps.entries))))
@@ -149,8 +149,8 @@ returns-clause-moved c =
     let m = mend_there k1.family k6.family k1.entries k6.entries (repaired_table fewest k1 (former_place f1)) (repaired_table fewest k6 at) c.args.due.snapshot mend (sym family) (sym entries) same i in
     let N = repaired_table fewest k6 at in
     let made = ap (mended mend) (sym (e.entries ∙ d.entries)) ∙ mended_is k6.family c.args.due.snapshot k6.entries N mend m in
-    let r : Repair = record { former = c.in_ok-former-4.former; reach = mend.reach; due = c.args.due.snapshot; fewest = fewest; moved = record { repair = mend.there; snapshot = c.in_ok-changes.changes } } in
-    subst (λ (due : Bool). IsMoved k6 fewest at due (record { former = r.former; reach = r.reach; due = due; fewest = r.fewest; moved = r.moved })) (sym (is_on c.args.due.snapshot c.if-not-due.false))
+    let r : Repair = record { former = c.in_ok-former-4.former; cleared = c.clears-cleared.result; reach = mend.reach; due = c.args.due.snapshot; fewest = fewest; moved = record { repair = mend.there; snapshot = c.in_ok-changes.changes } } in
+    subst (λ (due : Bool). IsMoved k6 fewest at due (record { former = r.former; cleared = r.cleared; reach = r.reach; due = due; fewest = r.fewest; moved = r.moved })) (sym (is_on c.args.due.snapshot c.if-not-due.false))
     (record {
       is_due = refl;
       is_fewest = refl;
@@ -168,8 +168,26 @@ returns-clause-moved c =
       planned_order = renewed_placed k6.family k6.routes N;
     })
 
+pub note-requires-clause-at : goal.note-requires-clause-at
+note-requires-clause-at c =
+    let k0 = c.args.tree.now in
+    reach_family c.planned_prefix-at.result None k0 c.args.dirty.now.tree (route_family c.args.route c.planned_prefix-at.result k0.family c.planned_prefix-at.ensures c.requires.family) c.requires.known
+
+pub note-requires-clause-reach : goal.note-requires-clause-reach
+note-requires-clause-reach c =
+    let k0 = c.args.tree.now in
+    reach_family c.in_ok-mend.mend.reach None k0 c.args.dirty.now.tree (λ p s. c.in_ok-mend.ensures.mend.of_reach p s ∙ c.set_planned.ensures.keeps.family) c.requires.known
+
 pub returns-then-not-due-clause-marked : goal.returns-then-not-due-clause-marked
-returns-then-not-due-clause-marked c = marked_twice c.args.route c.planned_prefix.result (option_map prefix_as c.in_ok-mend.mend.reach) c.args.dirty.now.tree c.keep.new.self.tree c.keep-2.new.self.tree c.planned_prefix.ensures c.keep.ensures c.keep-2.ensures
+returns-then-not-due-clause-marked c =
+    let due = c.args.due in
+    let t = c.args.dirty.now.tree in
+    let u = c.note.new.dirty.tree in
+    subst (λ (b : Bool). AreNoted b due.fewest (place_in c.args.route) t u) (sym (is_off due.snapshot c.if-not-due.true))
+    (subst (λ (a : Option Prefix). AreNoted false due.fewest a t u) (places c.args.route c.planned_prefix-at.result c.planned_prefix-at.ensures) c.note.ensures)
 
 pub returns-clause-marked : goal.returns-clause-marked
-returns-clause-marked c = marked_twice c.args.route c.planned_prefix.result (option_map prefix_as c.in_ok-mend.mend.reach) c.args.dirty.now.tree c.keep.new.self.tree c.keep-2.new.self.tree c.planned_prefix.ensures c.keep.ensures c.keep-2.ensures
+returns-clause-marked c =
+    let due = c.args.due in
+    subst (λ (b : Bool). AreNoted b due.fewest (place_in c.args.route) c.args.dirty.now.tree c.keep-2.new.self.tree) (sym (is_on due.snapshot c.if-not-due.false))
+    (marked_twice c.args.route c.planned_prefix-at.result (option_map prefix_as c.in_ok-mend.mend.reach) c.args.dirty.now.tree c.keep.new.self.tree c.keep-2.new.self.tree c.planned_prefix-at.ensures c.keep.ensures c.keep-2.ensures)
