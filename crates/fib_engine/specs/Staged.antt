@@ -5,6 +5,8 @@ use Rattle.table_model.specs.declared.family.Family.{Family}
 use Rattle.table_model.specs.Entries.{Entries}
 use Rattle.route_model.specs.Events.{Elem}
 use Rattle.fib_addr.specs.Views.{prefix_as}
+use Rattle.fib_addr.specs.declared.addr.Addr.{Addr}
+use Rattle.fib_addr.specs.declared.entry.Hop as code_hop
 use Rattle.fib_prefix.specs.Views.{elem_as}
 use Rattle.smalta_keep.specs.Views.{with_planned}
 use Rattle.fib_engine.specs.Tables.{Route, only, route_in}
@@ -27,6 +29,10 @@ planned_elem p = elem_as p.elem
 -- the route that it changes, with the number that the hop chosen then has or gets, 0 where none is; nothing if it changes no chosen hop
 abbrev pub planned_route : code_planned.Planned → Route
 planned_route p = p.route
+
+-- the hop that it gives a number, with that number
+abbrev pub planned_hop : code_planned.Planned → Option (code_hop.Hop × Addr)
+planned_hop p = p.brings
 
 -- the prefix at which it changes the chosen hop, if it changes one
 abbrev pub changed_prefix : code_planned.Planned → Option Prefix

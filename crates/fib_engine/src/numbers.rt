@@ -8,7 +8,7 @@ ghost use Rattle.kept_model.specs.Kept.{is_other};
 ghost use Rattle.fib_addr.specs.Hops.{most_hops, number_of, with_hop};
 ghost use Rattle.fib_addr.specs.Views.{addr_as};
 ghost use Rattle.fib_prefix.specs.Views.{elem_as};
-ghost use Rattle.fib_engine.specs.Numbers.{HasNumber, IsNewNumber, IsOwnNumber, IsRouteOf};
+ghost use Rattle.fib_engine.specs.Numbers.{HasNumber, IsNewNumber, IsOwnNumber, IsRouteOf, brought_as, brought_by};
 
 use fib_prefix::{Addr, Elem, Hop, HopTable, HopsFull, Prefix};
 use route_choice::Choice;
@@ -50,6 +50,21 @@ pub(crate) fn number_hop(hops: &mut HopTable, own: Option<Hop>, elem: &Elem)
         if is_new(hops, own) {
             let _number = hops.number(hop);
         }
+    }
+}
+
+/// The hop that an elementary event gives a number, with that number; none if it puts no route, or one whose hop has a number. `own`
+/// is the number that its hop has or gets.
+pub(crate) fn number_brought(hops: &HopTable, own: Option<Hop>, elem: &Elem) -> Option<(Hop, Addr)>
+    requires { IsOwnNumber hops.now.list elem.now own }
+    ensures { brought_as result ≡ brought_by hops.now.list (elem_as elem.now) }
+{
+    let Elem::Put(_, _, _, hop) = elem else {
+        return None;
+    };
+    match (hops.find(hop), own) {
+        (None, Some(number)) => Some((number, *hop)),
+        _ => None,
     }
 }
 

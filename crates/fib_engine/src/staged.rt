@@ -16,14 +16,16 @@ ghost use Rattle.route_tries.specs.Parts.{AreAlikeOutside};
 ghost use Rattle.route_tries.specs.Sizes.{AreFew, needs_of, shortage, sizes_as};
 ghost use Rattle.route_tries.specs.declared.sizes.TrieFull.{TrieFull};
 ghost use Rattle.fib_engine.specs.Held.{engine_routes};
+ghost use Rattle.fib_engine.specs.Numbers.{brought_as, brought_by};
 ghost use Rattle.fib_engine.specs.Stands.{IsShortFor, IsTooMany, EngineStands, TakesElem, changes_of, first_of, routes_after};
-ghost use Rattle.fib_engine.specs.Staged.{IsTurn, changed_prefix, planned_elem, routes_planned};
+ghost use Rattle.fib_engine.specs.Staged.{IsTurn, changed_prefix, planned_elem, planned_hop, routes_planned};
 ghost use Rattle.fib_engine.specs.Tables.{only};
 
 use crate::error::EngineError;
+use crate::numbers::number_brought;
 use crate::parts::{Parts, Waiting};
 use crate::tables::EventChanges;
-use fib_prefix::{Elem, Entry, Event, Family, Hop, HopTable, Prefix};
+use fib_prefix::{Addr, Elem, Entry, Event, Family, Hop, HopTable, Prefix};
 use orig_tree::Tree;
 use ortc::Fresh;
 use route_tries::{FamilyNeeds, Sizes};
@@ -35,17 +37,25 @@ use std::marker::Model;
 pub struct Planned {
     pub(crate) elem: Elem,
     pub(crate) route: Option<(Prefix, Hop)>,
+    pub(crate) brings: Option<(Hop, Addr)>,
 }
 
 impl Planned {
     ghost use Rattle.std.specs.Prelude.{◌≡◌};
-    ghost use Rattle.fib_engine.specs.Staged.{planned_route};
+    ghost use Rattle.fib_engine.specs.Staged.{planned_hop, planned_route};
 
     /// The route that the event changes, with the hop that is chosen then, or `Hop::NONE`; none where it changes no chosen hop.
     pub fn route(&self) -> Option<(Prefix, Hop)>
         ensures { result ≡ planned_route self.now }
     {
         self.route
+    }
+
+    /// The hop that `commit` will number, with its number; none where the event brings no hop that has none yet.
+    pub fn brings(&self) -> Option<(Hop, Addr)>
+        ensures { result ≡ planned_hop self.now }
+    {
+        self.brings
     }
 }
 
@@ -120,6 +130,8 @@ impl Staged {
         ensures within { IfOk result (λ p. (q : model_prefix) → changed_prefix p ≡ Some q
             → AreAlikeOutside q (engine_routes self.old.held)
             (routes_after (elem_as elem.now) self.old.held)) }
+        ensures brings { IfOk result (λ p. brought_as (planned_hop p)
+            ≡ brought_by self.old.held.hops (elem_as elem.now)) }
         ensures full { IsErrOf result EngineError.HopsFull
             ↔ IsTooMany (elem_as elem.now) self.old.held }
         ensures fits { OnOk result (shortage self.old.held.sizes
@@ -132,6 +144,7 @@ impl Staged {
         let planned = Planned {
             elem: waiting.elem,
             route: waiting.route,
+            brings: number_brought(&self.parts.hops, waiting.own, &waiting.elem),
         };
         self.waiting = Some(waiting);
         Ok(planned)

@@ -1,14 +1,22 @@
 -- What an engine with its live tries is seen as.
 use Rattle.std.specs.Prelude.{◌≡◌, ℕ, false, Option, Some, None}
+use Rattle.table_model.specs.Address.{Prefix}
 use Rattle.table_model.specs.declared.family.Family.{Family}
 use Rattle.table_model.specs.Entries.{Entries}
 use Rattle.route_model.specs.Events.{Elem}
 use Rattle.fib_addr.specs.declared.addr.Addr.{Addr}
+use Rattle.fib_addr.specs.declared.entry.Hop as code_hop
 use Rattle.poptrie_update.specs.Lives.{is_pending, made_of, stores_left}
 use Rattle.poptrie_update.specs.Reads.{published_entries}
 use Rattle.poptrie_update.specs.declared.pending.Pending.{Pending}
 use Rattle.fib_engine.specs.Held.{EngineState, engine_routes}
-use Rattle.fib_engine.specs.Staged.{planned_elem, routes_by}
+use Rattle.fib_engine.specs.Stands.{routes_after}
+use Rattle.fib_engine.specs.Staged.{planned_elem, planned_hop, routes_by}
+use Rattle.kept_model.specs.Kept.{changed_at}
+use Rattle.poptrie_set.specs.declared.trie_set.Oldest.{Oldest}
+use Rattle.fib_router.specs.Errors.{IsHindered}
+use Rattle.fib_router.specs.declared.error.NotBegun.{NotBegun}
+use Rattle.fib_router.specs.declared.error.NotBegun.TheVariants as error
 use Rattle.fib_router.specs.Lives.{IsPendingOf, live_of}
 use Rattle.fib_router.specs.declared.lives.Lives as code_lives
 use Rattle.fib_router.specs.declared.router.Begun as code_begun
@@ -27,6 +35,10 @@ published_to r a = published_entries (live_of a.family r.lives) (engine_routes r
 -- ---- the token of the event that is begun
 abbrev pub begun_elem : code_begun.Begun → Elem
 begun_elem b = planned_elem b.planned
+
+-- the hop that its end will number, with that number
+abbrev pub begun_hop : code_begun.Begun → Option (code_hop.Hop × Addr)
+begun_hop b = planned_hop b.planned
 
 -- its update is pending in its family's trie, and nothing in the other; nothing in either if it changes no chosen hop
 abbrev pub IsPendingIn : Option (Family × Pending) → code_lives.Lives → Type 0
@@ -51,3 +63,13 @@ made_by (Some p) t = made_of (live_of p.0 t)
 
 abbrev pub made_in : code_begun.Begun → Routing → ℕ
 made_in b r = made_by b.pending r.lives
+
+-- An event is refused as pinned just where its family's trie is: that of the prefix at which it changes the chosen hop.
+abbrev pub IsPinnedFor : Oldest → Elem → Routing → NotBegun → Type 0
+IsPinnedFor who e r error.HopsFull = Unit {0}
+IsPinnedFor who e r (error.TrieFull t) = Unit {0}
+IsPinnedFor who e r (error.Pinned need cursor arena largest) =
+    (p : Prefix)
+    × (changed_at r.held.candidates e ≡ Some p)
+    × IsHindered who (error.Pinned need cursor arena largest) (live_of p.family r.lives) (engine_routes r.held) (routes_after e r.held)
+IsPinnedFor who e r error.NoMemory = Unit {0}

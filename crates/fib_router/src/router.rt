@@ -17,16 +17,17 @@ ghost use Rattle.poptrie_update.specs.Prepares.{IsCancelled};
 ghost use Rattle.route_tries.specs.Sizes.{AreFew, needs_of, shortage};
 ghost use Rattle.route_tries.specs.declared.sizes.TrieFull.{TrieFull};
 ghost use Rattle.fib_engine.specs.Held.{engine_routes};
+ghost use Rattle.fib_engine.specs.Numbers.{brought_as, brought_by};
 ghost use Rattle.fib_engine.specs.Stands.{IsShortFor, IsTooMany, EngineStands, TakesElem, changes_of, first_of, routes_after};
 ghost use Rattle.fib_router.specs.Errors.{IsHindered};
 ghost use Rattle.fib_router.specs.Lives.{live_of};
-ghost use Rattle.fib_router.specs.Router.{IsBegunIn, begun_elem, left_of, made_in, published_to};
+ghost use Rattle.fib_router.specs.Router.{IsBegunIn, IsPinnedFor, begun_elem, begun_hop, left_of, made_in, published_to};
 
 use crate::error::NotBegun;
 use crate::lives::Lives;
 use fib_addr::Steps;
 use fib_engine::{Engine, EventChanges, FamilyNeeds, Planned, Staged};
-use fib_prefix::{Addr, Elem, Entry, Event, Family, HopTable};
+use fib_prefix::{Addr, Elem, Entry, Event, Family, Hop, HopTable};
 use ortc::Fresh;
 use poptrie_build::Found;
 use poptrie_update::{Live, Oldest, Pending};
@@ -39,6 +40,18 @@ pub struct Begun {
     planned: Planned,
     // the update of its family's trie; none where it changes no chosen hop
     pending: Option<(Family, Pending)>,
+}
+
+impl Begun {
+    ghost use Rattle.std.specs.Prelude.{◌≡◌};
+    ghost use Rattle.fib_router.specs.Router.{begun_hop};
+
+    /// The hop that the event's end will number, with its number; none where it brings no hop that has none yet.
+    pub fn brings(&self) -> Option<(Hop, Addr)>
+        ensures { result ≡ begun_hop self.now }
+    {
+        self.planned.brings()
+    }
 }
 
 /// A loaded engine with a live trie of each family's routes. Contracts see what it holds, the event that is begun, and both tries.
@@ -95,6 +108,8 @@ impl Router {
         ensures begun { IfOk result (λ b. IsBegunIn b self.new) }
         ensures elem { IfOk result (λ b. begun_elem b ≡ elem_as elem.now) }
         ensures made { IfOk result (λ b. made_in b self.new ≡ 0) }
+        ensures brings { IfOk result (λ b. brought_as (begun_hop b)
+            ≡ brought_by self.old.held.hops (elem_as elem.now)) }
         ensures untouched { OnOk result (changed_at self.old.held.candidates (elem_as elem.now)
             ≡ None → self.new.lives ≡ self.old.lives) }
         ensures full { IsErrOf result NotBegun.HopsFull
@@ -103,6 +118,7 @@ impl Router {
             (routes_after (elem_as elem.now) self.old.held) ≡ None) }
         ensures short { (t : TrieFull) → IsErrOf result (NotBegun.TrieFull t)
             → IsShortFor self.old.held (routes_after (elem_as elem.now) self.old.held) t }
+        ensures pinned { IfErr result (IsPinnedFor oldest (elem_as elem.now) self.old) }
         ensures rest { OnErr result (self.new.begun ≡ None) }
     {
         let planned = self.lower.plan(elem)?;

@@ -7,6 +7,7 @@ use Rattle.smalta_keep.specs.Views.{with_planned}
 use Rattle.route_tries.specs.Parts.{AreAlikeOutside}
 use Rattle.route_tries.specs.Sizes.{shortage}
 use Rattle.fib_engine.specs.Held.{EngineState, engine_routes}
+use Rattle.fib_engine.specs.Numbers.{brought_by}
 use Rattle.fib_engine.specs.Parts.{AreSound, held_in}
 use Rattle.fib_engine.specs.Staged.{Staging}
 use Rattle.fib_engine.specs.Stands.{routes_after}
@@ -64,3 +65,9 @@ returns-clause-fits c =
     let same = c.plan.ensures.seen ∙ ap (λ (s : Staging). s.held) c.self.view_is in
     let second = subst (λ (x : Elem). shortage (held_in q).sizes (routes_after x (held_in q)) ≡ None) e (fit_of_plan w q c.in_ok-waiting.ensures.waiting) in
     subst (λ (h : EngineState). shortage h.sizes (routes_after (elem_as c.args.elem.now) h) ≡ None) same second
+
+pub returns-clause-brings : goal.returns-clause-brings
+returns-clause-brings c =
+    let q = c.plan.new.self in
+    let same = c.plan.ensures.seen ∙ ap (λ (s : Staging). s.held) c.self.view_is in
+    c.number_brought.ensures ∙ (ap (λ (x : Elem). brought_by q.hops.list x) c.in_ok-waiting.ensures.elem ∙ ap (λ (h : EngineState). brought_by h.hops (elem_as c.args.elem.now)) same)
