@@ -62,9 +62,12 @@ pub(crate) fn number_brought(hops: &HopTable, own: Option<Hop>, elem: &Elem) -> 
     let Elem::Put(_, _, _, hop) = elem else {
         return None;
     };
-    match (hops.find(hop), own) {
-        (None, Some(number)) => Some((number, *hop)),
-        _ => None,
+    match hops.find(hop) {
+        Some(_) => None,
+        None => match own {
+            Some(number) => Some((number, *hop)),
+            None => None,
+        },
     }
 }
 

@@ -191,6 +191,55 @@ impl Router {
         }
     }
 
+    /// Makes the stores that are left of the event that is begun, and ends it.
+    fn finish(&mut self, begun: Begun) -> EventChanges
+        requires { IsBegunIn begun self.old }
+        ensures rest { self.new.begun ≡ None }
+        ensures takes { TakesElem (begun_elem begun) self.old.held self.new.held }
+        ensures changes { map change_as result.changes.items
+            ≡ changes_of (begun_elem begun) self.old.held }
+        ensures first { result.first ≡ length (first_of (begun_elem begun) self.old.held) }
+        ensures stands { (load elems : List model_elem) → EngineStands load elems self.old.held
+            → EngineStands load (elems ++ begun_elem begun ∷ []) self.new.held }
+        ensures fits { shortage self.new.held.sizes (engine_routes self.new.held) ≡ None }
+    {
+        let mut begun = begun;
+        while self.store(&mut begun) {}
+        match self.end(begun) {
+            Ok(changes) => changes,
+            Err(_begun) => unreachable!(),
+        }
+    }
+
+    /// Takes an elementary event at once, where no lookup goes on: begins it, makes its stores and ends it.
+    ///
+    /// # Errors
+    ///
+    /// As `begin`'s, but for the pinned.
+    pub fn apply(&mut self, elem: &Elem) -> Result<EventChanges, NotBegun>
+        requires rest { self.old.begun ≡ None }
+        requires few { self.old.held.events + 1 < 2 ^ 64 }
+        ensures rest { self.new.begun ≡ None }
+        ensures takes { OnOk result (TakesElem (elem_as elem.now) self.old.held self.new.held) }
+        ensures changes { IfOk result (λ e. map change_as e.changes.items
+            ≡ changes_of (elem_as elem.now) self.old.held) }
+        ensures first { IfOk result (λ e. e.first
+            ≡ length (first_of (elem_as elem.now) self.old.held)) }
+        ensures stands { OnOk result ((load elems : List model_elem)
+            → EngineStands load elems self.old.held
+            → EngineStands load (elems ++ elem_as elem.now ∷ []) self.new.held) }
+        ensures full { IsErrOf result NotBegun.HopsFull
+            ↔ IsTooMany (elem_as elem.now) self.old.held }
+        ensures fits { OnOk result (shortage self.new.held.sizes
+            (engine_routes self.new.held) ≡ None) }
+        ensures short { (t : TrieFull) → IsErrOf result (NotBegun.TrieFull t)
+            → IsShortFor self.old.held (routes_after (elem_as elem.now) self.old.held) t }
+        ensures err { OnErr result (self.new.held ≡ self.old.held) }
+    {
+        let begun = self.begin(elem, Oldest::Nobody)?;
+        Ok(self.finish(begun))
+    }
+
     /// The event that is begun is forgotten: but for what its begin gave back, all is as before it.
     ///
     /// # Errors
