@@ -1,3 +1,4 @@
-mod Alike
-mod Room
-mod Through
+pub mod Alike
+pub mod Room
+pub mod Through
+pub mod Readying

@@ -14,7 +14,8 @@ ghost use Rattle.route_tries.specs.Sizes.{shortage};
 ghost use Rattle.fib_engine.specs.Held.{EngineState, engine_routes};
 ghost use Rattle.fib_engine.specs.Staged.{routes_planned};
 ghost use Rattle.fib_engine.specs.Stands.{TakesElem};
-ghost use Rattle.fib_router.specs.Errors.{IsHindered};
+ghost use Rattle.poptrie_build.specs.declared.filling.TrieFull.{TrieFull as TooFull};
+ghost use Rattle.fib_router.specs.Errors.{IsHindered, IsSaidOf};
 ghost use Rattle.fib_router.specs.Lives.{AreLives, HasPlaces, IsFilledWith, IsLiveOf, IsPendingOf, live_of};
 
 use crate::error::NotBegun;
@@ -47,6 +48,28 @@ fn filled(alloc: Global, tree: &Tree, sizes: &Sizes) -> Result<Live, AllocError>
     match live.fill(&RouteRegion::whole(tree)) {
         Ok(()) => Ok(live),
         Err(_full) => unreachable!(),
+    }
+}
+
+/// Why an event isn't begun whose family's trie isn't made ready, though the trie would fit.
+fn hindrance(why: NotReady) -> NotBegun
+    requires { (t : TooFull) → why ≡ NotReady.TooMuch t → ⊥ }
+    ensures { IsSaidOf why result }
+{
+    match why {
+        NotReady::Memory => NotBegun::NoMemory,
+        NotReady::TooMuch(_) => unreachable!(),
+        NotReady::Pinned {
+            need,
+            cursor,
+            arena,
+            largest,
+        } => NotBegun::Pinned {
+            need,
+            cursor,
+            arena,
+            largest,
+        },
     }
 }
 
