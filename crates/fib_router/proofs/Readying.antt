@@ -1,6 +1,7 @@
 -- Both live tries as one of them is made ready, stored, ended or cancelled.
 use Rattle.std.proofs.Common.{◌≡◌, ℕ, suc, ◌+◌, ◌^◌, ◌<◌, ◌≤◌, List, Bool, true, false, Option, Some, None, Result, Ok, Err, refl, sym, ap, ◌∙◌, arith, subst}
 use Rattle.std.specs.Prelude.{IfOk, OnOk, OnErr, IfErr}
+use Rattle.table_model.specs.Address.{same_family}
 use Rattle.table_model.specs.declared.family.Family.{Family}
 use Rattle.table_model.specs.declared.family.Family.TheVariants.{V4, V6}
 use Rattle.table_model.specs.Entries.{Entries}
@@ -21,7 +22,7 @@ use Rattle.fib_engine.specs.Staged.{routes_by}
 use Rattle.fib_engine.specs.Stands.{TakesElem}
 use Rattle.fib_engine.specs.Tables.{only}
 use Rattle.fib_router.specs.Errors.{IsHindered, IsSaidOf}
-use Rattle.fib_router.specs.Lives.{AreLives, HasPlaces, IsFilledWith, IsLiveOf, live_of}
+use Rattle.fib_router.specs.Lives.{AreLives, HasPlaces, IsFilledWith, IsLiveOf, IsPendingOf, live_of}
 use Rattle.fib_router.specs.declared.error.NotBegun.{NotBegun}
 use Rattle.fib_router.specs.declared.error.NotBegun.TheVariants as error
 use Rattle.fib_router.specs.declared.lives.Lives as code_lives
@@ -104,3 +105,49 @@ cancelled_both held e t q r l = (cancelled_elsewhere V4 held e t.v4 q l.0, cance
 pub early : (f : Family) (held : EngineState) (o : Option Elem) (e : Elem) (t : code_lives.Lives) → o ≡ Some e → AreLives held o t → (live_of f t).selected.time < 18446744073709551615
 early V4 held o e t is l = let few = l.0.counted e is in omega (arith, few, l.0.time)
 early V6 held o e t is l = let few = l.1.counted e is in omega (arith, few, l.1.time)
+
+-- ---- by the family of the update
+pub apart_from : (g f h : Family) → f ≡ h → same_family h g ≡ false → same_family f g ≡ false
+apart_from g f h e n = ap (λ (k : Family). same_family k g) e ∙ n
+
+pub made_in_live : (r : Result Pending NotBegun) (live : Living) → IfOk r (λ p. IsTokenOf p live × (made_of live ≡ 0)) → OnOk r (made_of live ≡ 0)
+made_in_live (Ok p) live t = t.1
+made_in_live (Err e) live t = tt
+
+pub pending_low : (old : code_lives.Lives) (live : Living) (f : Family) (r : Result Pending NotBegun) → f ≡ V4 → is_pending old.v6 ≡ false → IfOk r (λ p. IsTokenOf p live × (made_of live ≡ 0)) → IfOk r (λ p. IsPendingOf f p (record { v4 = live; v6 = old.v6 }))
+pending_low old live f (Ok p) e q t = subst (λ (k : Family). IsPendingOf k p (record { v4 = live; v6 = old.v6 })) (sym e) (t.0, q)
+pending_low old live f (Err x) e q t = tt
+
+pub pending_high : (old : code_lives.Lives) (live : Living) (f : Family) (r : Result Pending NotBegun) → f ≡ V6 → is_pending old.v4 ≡ false → IfOk r (λ p. IsTokenOf p live × (made_of live ≡ 0)) → IfOk r (λ p. IsPendingOf f p (record { v4 = old.v4; v6 = live }))
+pending_high old live f (Ok p) e q t = subst (λ (k : Family). IsPendingOf k p (record { v4 = old.v4; v6 = live })) (sym e) (t.0, q)
+pending_high old live f (Err x) e q t = tt
+
+-- ---- stores
+pub stored_low : (held : EngineState) (e : Elem) (old : code_lives.Lives) (live : Living) (p : Pending) → IsTokenOf p live → HasShapeOf old.v4 live → live.selected.time ≡ old.v4.selected.time → ((L M : Entries) → Shows old.v4 L M → Shows live L M) → AreLives held (Some e) old → AreLives held (Some e) (record { v4 = live; v6 = old.v6 })
+stored_low held e old live p token s t sh l = (stored_of V4 held e old.v4 live s t (is_waiting p live token) (sh _ _ l.0.shows) l.0, l.1)
+
+pub stored_high : (held : EngineState) (e : Elem) (old : code_lives.Lives) (live : Living) (p : Pending) → IsTokenOf p live → HasShapeOf old.v6 live → live.selected.time ≡ old.v6.selected.time → ((L M : Entries) → Shows old.v6 L M → Shows live L M) → AreLives held (Some e) old → AreLives held (Some e) (record { v4 = old.v4; v6 = live })
+stored_high held e old live p token s t sh l = (l.0, stored_of V6 held e old.v6 live s t (is_waiting p live token) (sh _ _ l.1.shows) l.1)
+
+-- ---- the end
+module _ {A B : Type 0} (old : code_lives.Lives) (live : Living) where
+  pub ended_low : (r : Result A B) → is_pending old.v6 ≡ false → HasShapeOf old.v4 live → OnOk r (live.selected.time ≡ suc old.v4.selected.time) → OnOk r (is_pending live ≡ false) → OnOk r ((L M : Entries) → Shows old.v4 L M → Shows live M M)
+      → OnOk r ((e : Elem) (was is : EngineState) → TakesElem e was is → AreLives was (Some e) old → AreLives is None (record { v4 = live; v6 = old.v6 }))
+  ended_low (Ok a) rest s t q sh = λ e was is takes l. (ended_of V4 was e is takes old.v4 live s t q (sh _ _ l.0.shows) l.0, ended_elsewhere V6 was e is takes old.v6 rest l.1)
+  ended_low (Err b) rest s t q sh = tt
+
+  pub ended_high : (r : Result A B) → is_pending old.v4 ≡ false → HasShapeOf old.v6 live → OnOk r (live.selected.time ≡ suc old.v6.selected.time) → OnOk r (is_pending live ≡ false) → OnOk r ((L M : Entries) → Shows old.v6 L M → Shows live M M)
+      → OnOk r ((e : Elem) (was is : EngineState) → TakesElem e was is → AreLives was (Some e) old → AreLives is None (record { v4 = old.v4; v6 = live }))
+  ended_high (Ok a) rest s t q sh = λ e was is takes l. (ended_elsewhere V4 was e is takes old.v4 rest l.0, ended_of V6 was e is takes old.v6 live s t q (sh _ _ l.1.shows) l.1)
+  ended_high (Err b) rest s t q sh = tt
+
+  -- it is forgotten
+  pub cancelled_low : (r : Result A B) → is_pending old.v6 ≡ false → HasShapeOf old.v4 live → live.selected.time ≡ old.v4.selected.time → OnOk r (is_pending live ≡ false) → OnOk r ((L M : Entries) → Shows old.v4 L M → Shows live L L)
+      → OnOk r ((held : EngineState) (e : Elem) → AreLives held (Some e) old → AreLives held None (record { v4 = live; v6 = old.v6 }))
+  cancelled_low (Ok a) rest s t q sh = λ held e l. (cancelled_of V4 held e old.v4 live s t q (sh _ _ l.0.shows) l.0, cancelled_elsewhere V6 held e old.v6 rest l.1)
+  cancelled_low (Err b) rest s t q sh = tt
+
+  pub cancelled_high : (r : Result A B) → is_pending old.v4 ≡ false → HasShapeOf old.v6 live → live.selected.time ≡ old.v6.selected.time → OnOk r (is_pending live ≡ false) → OnOk r ((L M : Entries) → Shows old.v6 L M → Shows live L L)
+      → OnOk r ((held : EngineState) (e : Elem) → AreLives held (Some e) old → AreLives held None (record { v4 = old.v4; v6 = live }))
+  cancelled_high (Ok a) rest s t q sh = λ held e l. (cancelled_elsewhere V4 held e old.v4 rest l.0, cancelled_of V6 held e old.v6 live s t q (sh _ _ l.1.shows) l.1)
+  cancelled_high (Err b) rest s t q sh = tt
