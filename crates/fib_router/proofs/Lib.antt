@@ -2,3 +2,4 @@ pub mod Alike
 pub mod Room
 pub mod Through
 pub mod Readying
+pub mod Routing
