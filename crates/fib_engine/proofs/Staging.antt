@@ -25,12 +25,13 @@ use Rattle.route_tries.specs.Parts.{AreAlikeOutside}
 use Rattle.route_tries.specs.Sizes.{first_short, needs_of, shortage, sizes_as}
 use Rattle.fib_engine.specs.Tables.{Both, Route, KeepRoutes, MadeBy, both_firsts, gathered, labels_of, needs_put, only, route_in, table_of}
 use Rattle.fib_engine.specs.Numbers.{HasNumber, IsNewNumber, IsRouteOf}
-use Rattle.fib_engine.specs.Held.{AreKeptNeeds, EngineState, IsSound, if_loaded}
-use Rattle.fib_engine.specs.Stands.{TakesElem, changes_of, first_of}
+use Rattle.fib_engine.specs.Held.{AreKeptNeeds, EngineState, IsSound, engine_routes, if_loaded}
+use Rattle.fib_engine.specs.Stands.{TakesElem, changes_of, first_of, routes_after}
 use Rattle.fib_engine.specs.Parts.{AreSound, IsWaiting, held_in, waiting_elem}
-use Rattle.fib_engine.specs.Staged.{Waits, routes_by}
+use Rattle.fib_engine.specs.Staged.{IsTurn, Waits, planned_route, routes_by}
 use Rattle.fib_engine.specs.declared.parts.Parts as code_parts
 use Rattle.fib_engine.specs.declared.parts.Waiting as code_waiting
+use Rattle.fib_engine.specs.declared.staged.Planned as code_planned
 use Rattle.fib_engine.proofs.Holding.{of_only, only_placed}
 use Rattle.fib_engine.proofs.Needing.{needs_known}
 use Rattle.fib_engine.proofs.Taking.{IsTaken, chosen_has, is_elem, route_changed, routes_placed, routes_turn, table_placed, taken}
@@ -206,3 +207,7 @@ kept_needs (Some w) p i = i.kept
 -- the kept table is in order
 pub planned_placed : (w : code_waiting.Waiting) (p : code_parts.Parts) → IsWaiting w p → InPlace (table_of p.tables)
 planned_placed w p i = subst (λ (T : Entries). InPlace T) (sym (same_table w p i)) (table_placed p.candidates.candidates p.hops.list true i.before i.sound)
+
+-- a family of which the event changes no route
+pub turned_elsewhere : (e : Elem) (old : EngineState) (p : code_planned.Planned) → IsTurn e old p → (f : Family) → route_in f (planned_route p) ≡ None → only f (engine_routes old) ≡ only f (routes_after e old)
+turned_elsewhere e old p turn f none = sym (ap (λ (r : Route). with_planned r (only f (engine_routes old))) none) ∙ turn f

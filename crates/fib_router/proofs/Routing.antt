@@ -11,18 +11,19 @@ use Rattle.fib_addr.specs.declared.entry.Hop as code_hop
 use Rattle.fib_addr.specs.declared.prefix.Prefix as code_prefix
 use Rattle.fib_addr.specs.Answers.{all_answers}
 use Rattle.fib_addr.specs.Views.{prefix_as}
-use Rattle.smalta_keep.specs.Views.{with_planned}
 use Rattle.poptrie_set.specs.declared.trie_set.Oldest.{Oldest}
 use Rattle.poptrie_update.specs.Lives.{Living}
 use Rattle.route_tries.specs.Parts.{AreAlikeOutside}
 use Rattle.route_tries.specs.Sizes.{shortage}
 use Rattle.route_tries.specs.declared.sizes.TrieFull as code_full
 use Rattle.fib_engine.specs.Held.{EngineState, engine_routes}
-use Rattle.fib_engine.specs.Staged.{Staging, routes_by, routes_planned}
+use Rattle.fib_engine.specs.Staged.{IsTurn, Staging, planned_route, routes_by, routes_planned}
 use Rattle.fib_engine.specs.Stands.{routes_after}
 use Rattle.fib_engine.specs.Tables.{Route, only, route_in}
 use Rattle.fib_engine.specs.declared.error.EngineError.{EngineError}
 use Rattle.fib_engine.specs.declared.error.EngineError.TheVariants as engine
+use Rattle.fib_engine.specs.declared.staged.Planned.{Planned}
+use Rattle.fib_engine.proofs.Staging.{turned_elsewhere}
 use Rattle.fib_router.specs.Errors.{IsHindered, as_not_begun}
 use Rattle.fib_router.specs.Lives.{AreLives, live_of}
 use Rattle.fib_router.specs.Router.{IsPinnedFor, Routing}
@@ -43,10 +44,9 @@ module _ (old : EngineState) (q : Staging) (e : Elem) (same : q.held ≡ old) (i
   fits_planned f = ap (shortage q.held.sizes) now ∙ (ap (λ (h : EngineState). shortage h.sizes (routes_after e old)) same ∙ f)
 
   -- a family of which it changes no route
-  pub still_now : (route : Route) → ((f : Family) → with_planned (route_in f route) (only f (engine_routes old)) ≡ only f (routes_after e old)) → (f : Family) → route_in f route ≡ None → all_answers f (engine_routes q.held) ≡ all_answers f (routes_planned q)
-  still_now route turn f none =
-      let known : only f (engine_routes old) ≡ only f (routes_after e old) = sym (ap (λ (r : Route). with_planned r (only f (engine_routes old))) none) ∙ turn f in
-      ap (λ (h : EngineState). all_answers f (engine_routes h)) same ∙ (answers_known f (engine_routes old) (routes_after e old) known ∙ ap (all_answers f) (sym now))
+  pub still_now : (p : Planned) → IsTurn e old p → (f : Family) → route_in f (planned_route p) ≡ None → all_answers f (engine_routes q.held) ≡ all_answers f (routes_planned q)
+  still_now p turn f none =
+      ap (λ (h : EngineState). all_answers f (engine_routes h)) same ∙ (answers_known f (engine_routes old) (routes_after e old) (turned_elsewhere e old p turn f none) ∙ ap (all_answers f) (sym now))
 
 -- a route of another family
 pub routed_elsewhere : (route : Route) (r : code_prefix.Prefix × code_hop.Hop) (f : Family) → route ≡ Some r → same_family r.0.family f ≡ false → route_in f route ≡ None

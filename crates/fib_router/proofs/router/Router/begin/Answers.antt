@@ -36,7 +36,7 @@ pub prepare-requires-clause-elsewhere : goal.prepare-requires-clause-elsewhere
 prepare-requires-clause-elsewhere c = λ f apart.
     let t = c.self.inside in
     let route = planned_route c.in_ok-planned.planned in
-    still_now t.lower.held c.plan.new.self (elem_as c.args.elem.now) c.plan.ensures.held c.in_ok-planned.ensures.planned route c.in_ok-planned.ensures.turn f (routed_elsewhere route (c.in-Some.prefix, c.in-Some.field-0-1) f (sym c.route.ensures ∙ c.in-Some.is) apart)
+    still_now t.lower.held c.plan.new.self (elem_as c.args.elem.now) c.plan.ensures.held c.in_ok-planned.ensures.planned c.in_ok-planned.planned c.in_ok-planned.ensures.turn f (routed_elsewhere route (c.in-Some.prefix, c.in-Some.field-0-1) f (sym c.route.ensures ∙ c.in-Some.is) apart)
 
 pub prepare-requires-clause-fits : goal.prepare-requires-clause-fits
 prepare-requires-clause-fits c =
