@@ -3,3 +3,4 @@ pub mod Room
 pub mod Through
 pub mod Readying
 pub mod Routing
+pub mod Looking

@@ -81,7 +81,3 @@ hindered_not_full who e l L M t h is = subst (λ (x : NotBegun). IsHindered who 
 pub err_same : {A E : Type 0} {x y : E} → (let r : Result A E = Err x in r) ≡ Err y → x ≡ y
 err_same e = cc
 
--- the same in both where nothing is begun
-pub published_rest : (c : Bool) (L : Entries) → cond c L L ≡ L
-published_rest true L = refl
-published_rest false L = refl
