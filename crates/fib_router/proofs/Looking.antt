@@ -7,7 +7,7 @@ use Rattle.route_model.specs.Events.{Elem}
 use Rattle.fib_addr.specs.declared.addr.Addr.{Addr}
 use Rattle.fib_addr.specs.Views.{addr_as}
 use Rattle.poptrie_build.specs.Tries.{visits_of}
-use Rattle.poptrie_build.specs.declared.trie.Found.{Found}
+use Rattle.poptrie_build.specs.declared.lookup.Found.{Found}
 use Rattle.poptrie_set.specs.First.{slot_of}
 use Rattle.poptrie_update.specs.Lives.{Living, Shows}
 use Rattle.poptrie_update.specs.Reads.{covers_by, published_entries}

@@ -80,4 +80,3 @@ hindered_not_full who e l L M t h is = subst (λ (x : NotBegun). IsHindered who 
 
 pub err_same : {A E : Type 0} {x y : E} → (let r : Result A E = Err x in r) ≡ Err y → x ≡ y
 err_same e = cc
-

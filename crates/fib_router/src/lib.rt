@@ -9,7 +9,6 @@
 mod error;
 mod lives;
 mod router;
-mod tries;
 
 pub use error::NotBegun;
 pub use fib_engine::{EventChanges, FamilyNeeds, Needs, Sizes, TrieFull};
