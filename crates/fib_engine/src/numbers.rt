@@ -1,6 +1,6 @@
 //! The numbers of next hops while an elementary event is planned, and the route that it changes.
 
-ghost use Rattle.std.specs.Prelude.{◌≡◌, ◌≤◌, ◌<◌, [], ◌∷◌, List, length, not, option_map, false, Some, IfOk, IfSome, IsSome, IsErr};
+ghost use Rattle.std.specs.Prelude.{◌≡◌, ◌≤◌, ◌<◌, ◌↔◌, [], ◌∷◌, List, length, not, option_map, false, Some, IfOk, IfSome, IsSome, IsErr};
 ghost use Rattle.table_model.specs.Address.{Address};
 ghost use Rattle.route_model.specs.Events.{Elem as model_elem};
 ghost use Rattle.kept_model.specs.Feed.{hops_after, number_in};
