@@ -96,11 +96,6 @@ impl Staged {
         self.parts.limits.sizes
     }
 
-    /// A law: tries of the routes have room.
-    pub fn fits_law(&self)
-        ensures { shortage self.now.held.sizes (engine_routes self.now.held) ≡ None }
-    {}
-
     /// The event as elementary events, as `Engine::elementary` tells it.
     ///
     /// # Errors
@@ -262,6 +257,7 @@ impl Staged {
     /// the planned event, if one is.
     pub fn needs(&self) -> FamilyNeeds
         ensures needs { result ≡ needs_of self.now.held.sizes.direct (engine_routes self.now.held) }
+        ensures fits { shortage self.now.held.sizes (engine_routes self.now.held) ≡ None }
         ensures few { AreFew result }
     {
         self.parts.needs

@@ -127,7 +127,8 @@ impl Lives {
         requires { lower.now.planned ≡ None }
         ensures { IfOk result (AreLives lower.now.held None) }
     {
-        lower.fits_law();
+        // they have room, which its needs tell
+        let _needs = lower.needs();
         let sizes = lower.sizes();
         let v4 = filled(alloc, lower.tree(Family::V4), &sizes)?;
         let v6 = filled(alloc, lower.tree(Family::V6), &sizes)?;

@@ -10,12 +10,12 @@ use Rattle.fib_router.proofs.lives.Lives.new.Goals as goal
 pub filled-v4-requires : goal.filled-v4-requires
 filled-v4-requires c =
     let l = c.args.lower.now in
-    places_of V4 c.tree.result.now.family c.sizes-sizes.result l.held.sizes (engine_routes l.held) c.tree.result.now.routes c.sizes-sizes.ensures c.fits_law.ensures c.tree.ensures.family (c.tree.ensures.routes ∙ ap (λ (o : Option Elem). only V4 (routes_by o l.held)) c.requires)
+    places_of V4 c.tree.result.now.family c.sizes-sizes.result l.held.sizes (engine_routes l.held) c.tree.result.now.routes c.sizes-sizes.ensures c.needs-_needs.ensures.fits c.tree.ensures.family (c.tree.ensures.routes ∙ ap (λ (o : Option Elem). only V4 (routes_by o l.held)) c.requires)
 
 pub filled-v6-requires : goal.filled-v6-requires
 filled-v6-requires c =
     let l = c.args.lower.now in
-    places_of V6 c.tree-2.result.now.family c.sizes-sizes.result l.held.sizes (engine_routes l.held) c.tree-2.result.now.routes c.sizes-sizes.ensures c.fits_law.ensures c.tree-2.ensures.family (c.tree-2.ensures.routes ∙ ap (λ (o : Option Elem). only V6 (routes_by o l.held)) c.requires)
+    places_of V6 c.tree-2.result.now.family c.sizes-sizes.result l.held.sizes (engine_routes l.held) c.tree-2.result.now.routes c.sizes-sizes.ensures c.needs-_needs.ensures.fits c.tree-2.ensures.family (c.tree-2.ensures.routes ∙ ap (λ (o : Option Elem). only V6 (routes_by o l.held)) c.requires)
 
 pub returns : goal.returns
 returns c =
