@@ -1,6 +1,6 @@
 -- The numbers of hops while an elementary event is planned.
-use Rattle.std.proofs.Common.{◌≡◌, ℕ, ◌+◌, ◌<◌, ◌≤◌, List, [], ◌∷◌, ◌++◌, Bool, true, false, cond, Option, Some, None, length, refl, sym, ap, ◌∙◌, arith, length-append}
-use Rattle.std.specs.Prelude.{option_map, unwrap_or, ◌||◌, not, IfSome, IsSome}
+use Rattle.std.proofs.Common.{◌≡◌, ℕ, ◌+◌, ◌<◌, ◌≤◌, List, [], ◌∷◌, ◌++◌, Bool, true, false, cond, Option, Some, None, length, refl, sym, ap, subst, ◌∙◌, arith, length-append}
+use Rattle.std.specs.Prelude.{option_map, is_some, unwrap_or, ◌||◌, not, IfSome, IsSome}
 use Rattle.std.specs.List.{list_any, AllByRecursion}
 use Rattle.table_model.specs.Address.{Address, Prefix, same_address}
 use Rattle.table_model.proofs.SamePrefix.{same_address_is}
@@ -17,7 +17,7 @@ use Rattle.fib_prefix.specs.declared.event.Via as code_via
 use Rattle.fib_prefix.specs.declared.event.Elem as code_elem
 use Rattle.fib_prefix.specs.declared.event.Elem.TheVariants as code_variant
 use Rattle.kept_model.specs.Kept.{is_other}
-use Rattle.fib_engine.specs.Numbers.{IsNewNumber, IsOwnNumber, number_routes}
+use Rattle.fib_engine.specs.Numbers.{IsNewNumber, IsOwnNumber, brought_by, number_routes}
 
 -- ---- one hop too many
 
@@ -40,6 +40,19 @@ module _ (hops : List Address) (elem : code_elem.Elem) (v : code_via.Via) (p : c
 
   pub fits_put : length hops ≤ most_hops → most_hops < length (hops_after hops (elem_as elem ∷ [])) → (length hops ≡ most_hops) × (number_of hops (addr_as hop) ≡ None)
   fits_put few over = fits_hop hops (addr_as hop) few (rw is at over)
+
+-- ---- the hop that is brought
+
+brought : (hops : List Address) (a : Address) (own : Option ℕ) → number_of hops a ≡ None → own ≡ number_of (with_hop hops a) a → option_map {U = ℕ × Address} (λ n. (n, a)) own ≡ cond (is_some (number_of hops a)) None (option_map {U = ℕ × Address} (λ n. (n, a)) (number_of (with_hop hops a) a))
+brought hops a own none is = ap (option_map {U = ℕ × Address} (λ (n : ℕ). (n, a))) is ∙ ap (λ (o : Option ℕ). cond (is_some o) None (option_map {U = ℕ × Address} (λ (n : ℕ). (n, a)) (number_of (with_hop hops a) a))) (sym none)
+
+pub put_brings : (hops : List Address) (elem : code_elem.Elem) (v : code_via.Via) (p : code_prefix.Prefix) (path : ℕ) (hop : Addr) (own : Option Hop) → elem ≡ code_variant.Put v p path hop → number_of hops (addr_as hop) ≡ None → IsOwnNumber hops elem own → option_map {U = ℕ × Address} (λ n. (n, addr_as hop)) (option_map (λ h. h.0) own) ≡ brought_by hops (elem_as elem)
+put_brings hops elem v p path hop own is none of =
+    subst (λ (e : code_elem.Elem). option_map {U = ℕ × Address} (λ n. (n, addr_as hop)) (option_map (λ h. h.0) own) ≡ brought_by hops (elem_as e)) (sym is) (brought hops (addr_as hop) (option_map (λ h. h.0) own) none (subst (λ (e : code_elem.Elem). IsOwnNumber hops e own) is of))
+
+pub put_brings_none : (hops : List Address) (elem : code_elem.Elem) (v : code_via.Via) (p : code_prefix.Prefix) (path : ℕ) (hop : Addr) (n : ℕ) → elem ≡ code_variant.Put v p path hop → number_of hops (addr_as hop) ≡ Some n → None ≡ brought_by hops (elem_as elem)
+put_brings_none hops elem v p path hop n is held =
+    subst (λ (e : code_elem.Elem). None ≡ brought_by hops (elem_as e)) (sym is) (ap (λ (o : Option ℕ). cond (is_some o) None (option_map {U = ℕ × Address} (λ (k : ℕ). (k, addr_as hop)) (number_of (with_hop hops (addr_as hop)) (addr_as hop)))) (sym held))
 
 -- ---- the number that a hop gets by an elementary event
 

@@ -290,7 +290,7 @@ module _ (C : Candidates) (H : List Address) (elem : Elem) (elems : List Elem) (
     other_is : is_other (chosen_for C p) (chosen_for C' p) ≡ is_other (option_map addr_as choice.before) (option_map addr_as choice.after)
     other_is = ap (λ o. is_other o (chosen_for C' p)) (sym ch.before) ∙ ap (is_other (option_map addr_as choice.before)) (sym ch.after)
 
-    routes_turn : (route : Route) → IsRouteOf H' choice route → (f : Family) → with_planned (route_in f route) (only f E) ≡ only f E'
+    pub routes_turn : (route : Route) → IsRouteOf H' choice route → (f : Family) → with_planned (route_in f route) (only f E) ≡ only f E'
     routes_turn None r f =
         let same : chosen_for C p ≡ chosen_for C' p = not_other (chosen_for C p) (chosen_for C' p) (other_is ∙ r) in
         ap (only f) (stays_all p E E' new (at_prefix elem x) old_placed new_placed after (ap (option_map (number_in H')) (sym same) ∙ (sym (routed_at H' C p) ∙ ap (entry_hop_at p) same_numbers)))
@@ -307,6 +307,11 @@ module _ (C : Candidates) (H : List Address) (elem : Elem) (elems : List Elem) (
             ap (λ q. with_route q rr.1.0 (only f E)) there
             ∙ turned p E E' new (at_prefix elem x) old_placed new_placed after f rr.1.0 (turned_family ∙ t) (ap some_of (r.2 ∙ ap (number_or_none H') ch.after) ∙ some_new H' (chosen_for C' p) (chosen_has (chosen_for C' p) refl))
         by_test false t = stays_out p E E' new (at_prefix elem x) old_placed new_placed after f (turned_family ∙ t)
+
+    -- the route is one at the prefix at which the chosen hop changes
+    pub route_changed : (route : Route) → IsRouteOf H' choice route → option_map (λ r. prefix_as r.0) route ≡ changed_at C elem
+    route_changed None r = ap (λ t. let o : Option Prefix = if t then Some p else None in o) (sym (other_is ∙ r))
+    route_changed (Some rr) r = ap Some (ap prefix_as r.1 ∙ ch.prefix) ∙ ap (λ t. let o : Option Prefix = if t then Some p else None in o) (sym (other_is ∙ r.0))
 
     -- how many changes a first step makes is told just where it has a prefix
     moves_turn : (route : Route) → IsRouteOf H' choice route → (n m : ℕ) → n ≡ m → option_map (λ r. n) route ≡ option_map (λ q. m) (changed_at C elem)

@@ -4,3 +4,5 @@ pub mod Stands
 pub mod Numbers
 pub mod FinalFib
 pub mod Turns
+pub mod Parts
+pub mod Staged

@@ -1,9 +1,11 @@
 -- The numbers of hops while an elementary event is planned.
-use Rattle.std.specs.Prelude.{◌≡◌, ℕ, List, Option, Some, None, option_map, map, true, false}
+use Rattle.std.specs.Prelude.{◌≡◌, ℕ, List, Option, Some, None, option_map, is_some, cond, map, true, false}
 use Rattle.table_model.specs.Address.{Address, Prefix}
 use Rattle.table_model.specs.Entries.{Entries}
+use Rattle.route_model.specs.Events.{Elem, Put, Cut}
 use Rattle.fib_addr.specs.Hops.{number_of, with_hop}
 use Rattle.fib_addr.specs.Views.{addr_as}
+use Rattle.fib_addr.specs.declared.addr.Addr.{Addr}
 use Rattle.fib_addr.specs.declared.prefix.Prefix as code_prefix
 use Rattle.fib_addr.specs.declared.entry.Hop as code_hop
 use Rattle.fib_prefix.specs.declared.event.Elem as code_elem
@@ -20,6 +22,14 @@ IsNewNumber before after own = (a : Address) → IsNumbered after a → number_o
 abbrev pub IsOwnNumber : List Address → code_elem.Elem → Option code_hop.Hop → Type 0
 IsOwnNumber hops (code_variant.Put via prefix path hop) own = option_map (λ h. h.0) own ≡ number_of (with_hop hops (addr_as hop)) (addr_as hop)
 IsOwnNumber hops (code_variant.Cut via prefix) own = Unit {0}
+
+-- The hop that an elementary event gives a number, with that number: it puts a route whose hop has none yet.
+abbrev pub brought_by : List Address → Elem → Option (ℕ × Address)
+brought_by hops (Put via prefix path hop) = cond (is_some (number_of hops hop)) None (option_map (λ n. (n, hop)) (number_of (with_hop hops hop) hop))
+brought_by hops (Cut via prefix) = None
+
+abbrev pub brought_as : Option (code_hop.Hop × Addr) → Option (ℕ × Address)
+brought_as o = option_map (λ b. (b.0.0, addr_as b.1)) o
 
 -- the number of a hop, if there is one; none's is 0
 abbrev pub number_or_none : List Address → Option Address → ℕ

@@ -1,16 +1,14 @@
 //! The engine.
 
-ghost use Rattle.std.specs.Prelude.{◌≡◌, ◌≤◌, ◌<◌, ◌+◌, ◌^◌, ◌↔◌, [], ◌∷◌, ◌++◌, ℕ, List, length, map, not, option_map, true, false, Some, None, IfOk, IfSome, IsSome, OnOk, OnErr, IsErr, IsErrOf};
-ghost use Rattle.table_model.specs.Address.{Address, Prefix as model_prefix};
+ghost use Rattle.std.specs.Prelude.{◌≡◌, ◌<◌, ◌+◌, ◌^◌, ◌↔◌, [], ◌∷◌, ◌++◌, List, length, map, true, false, Some, None, IfOk, OnOk, OnErr, IsErrOf};
+ghost use Rattle.table_model.specs.Address.{Prefix as model_prefix};
 ghost use Rattle.table_model.specs.Both.{aggregate_in_both};
 ghost use Rattle.cert_model.specs.Rows.{certificate_of};
 ghost use Rattle.route_model.specs.Events.{Elem as model_elem};
 ghost use Rattle.route_model.specs.Choice.{elems_of};
-ghost use Rattle.kept_model.specs.Feed.{hops_after, number_in};
-ghost use Rattle.kept_model.specs.Kept.{changed_at, is_due as due_at, is_other};
+ghost use Rattle.kept_model.specs.Kept.{changed_at};
 ghost use Rattle.moves_model.specs.Shortest.{AreShortest};
-ghost use Rattle.fib_addr.specs.Hops.{most_hops, number_of, with_hop};
-ghost use Rattle.fib_addr.specs.Views.{addr_as, entry_as};
+ghost use Rattle.fib_addr.specs.Views.{entry_as};
 ghost use Rattle.fib_prefix.specs.Views.{elem_as, event_as};
 ghost use Rattle.route_choice.specs.Held.{put_as};
 ghost use Rattle.fib_delta.specs.Views.{change_as};
@@ -19,19 +17,20 @@ ghost use Rattle.route_tries.specs.Sizes.{AreFew, needs_of, shortage, sizes_as};
 ghost use Rattle.route_tries.specs.Tries.{AreTriesOf};
 ghost use Rattle.route_tries.specs.declared.sizes.TrieFull.{TrieFull};
 ghost use Rattle.fib_engine.specs.Held.{engine_routes, routes_told};
-ghost use Rattle.fib_engine.specs.Numbers.{HasNumber, IsNewNumber, IsOwnNumber, IsRouteOf};
 ghost use Rattle.fib_engine.specs.Tables.{AreOfRoutes};
 ghost use Rattle.fib_engine.specs.Turns.{AreTurnsOf};
 ghost use Rattle.fib_engine.specs.Stands.{EndsLoad, IsLoading, IsShortFor, IsTooMany, Loads, EngineStands, TakesElem, changes_of, first_of, routes_after};
 
 use crate::error::EngineError;
 use crate::final_fib::FinalFib;
-use crate::fitting::plan_fitting;
+use crate::numbers::{number_hop, number_next, number_put, number_route};
+use crate::parts::Parts;
+use crate::staged::Staged;
 use crate::tables::{EventChanges, Tables};
 use crate::turns::Turns;
-use fib_prefix::{Addr, Elem, Entry, Event, Family, Hop, HopTable, HopsFull, Prefix, Via};
+use fib_prefix::{Addr, Elem, Entry, Event, Family, HopTable, Prefix, Via};
 use ortc::Fresh;
-use route_choice::{Candidates, Choice};
+use route_choice::Candidates;
 use route_tries::{FamilyNeeds, Sizes, Tries, TriesError};
 use std::alloc::{AllocError, Global};
 use std::marker::Model;
@@ -51,154 +50,18 @@ pub struct Limits {
 /// under one event at a time. Contracts see what `EngineState` lists.
 #[derive(Drop)]
 pub struct Engine {
-    alloc: Global,
-    candidates: Candidates,
-    hops: HopTable,
-    // empty, and of no routes, until the load ends; so are the needs those of no routes
-    tables: Tables,
-    needs: FamilyNeeds,
-    events: u64,
-    // how many changes the first step of the last event made, if that changed a chosen hop
-    moves: Option<u64>,
-    limits: Limits,
-    is_loaded: bool,
+    parts: Parts,
 }
 
 impl Model for Engine {
-    ghost use Rattle.kept_model.specs.Feed.{entries_of};
-    ghost use Rattle.route_tries.specs.Sizes.{sizes_as};
-    ghost use Rattle.fib_engine.specs.Held.{EngineState, IsSound, AreKeptNeeds, if_loaded};
-    ghost use Rattle.fib_engine.specs.Tables.{table_of};
+    ghost use Rattle.fib_engine.specs.Held.{EngineState};
+    ghost use Rattle.fib_engine.specs.Parts.{AreSound, held_in};
 
     ghost Value = { EngineState };
 
-    ghost view = { λ e. record { every = e.limits.every; fewest = e.limits.fewest; sizes = sizes_as e.limits.sizes; candidates = e.candidates.candidates; hops = e.hops.list; table = table_of e.tables; loaded = e.is_loaded; events = e.events; moves = e.moves } };
+    ghost view = { λ e. held_in e.parts };
 
-    ghost invariant = { λ e. IsSound e.candidates.candidates e.hops.list e.is_loaded e.tables
-        × AreKeptNeeds (sizes_as e.limits.sizes)
-        (if_loaded e.is_loaded (entries_of e.hops.list e.candidates.candidates)) e.needs };
-}
-
-/// Whether a snapshot follows the elementary event of this number.
-fn is_due(every: u32, event: u64) -> bool
-    ensures { result ≡ due_at every event }
-{
-    every != 0 && event % u64::from(every) == 0
-}
-
-/// The number that an elementary event's hop has or gets, if it puts a route.
-pub(crate) fn number_put(hops: &HopTable, elem: &Elem) -> Result<Option<Hop>, HopsFull>
-    requires { length hops.now.list ≤ most_hops }
-    ensures full { IsErr result ↔ (most_hops
-        < length (hops_after hops.now.list (elem_as elem.now ∷ []))) }
-    ensures number { IfOk result (IsNewNumber hops.now.list
-        (hops_after hops.now.list (elem_as elem.now ∷ []))) }
-    ensures own { IfOk result (IsOwnNumber hops.now.list elem.now) }
-{
-    match elem {
-        Elem::Put(_, _, _, hop) => Ok(Some(hops.next(hop)?)),
-        Elem::Cut(_, _) => Ok(None),
-    }
-}
-
-/// Whether this is the number of none of the hops.
-fn is_new(hops: &HopTable, own: Option<Hop>) -> bool
-    ensures { result ≡ false → IfSome own (λ n. n.0 ≤ length hops.now.list) × IsSome own }
-{
-    match own {
-        Some(number) => hops.addr(number).is_none(),
-        None => true,
-    }
-}
-
-/// Numbers the hop of an elementary event, if it puts a route and the hop has no number yet; `own` is the number that it has or
-/// gets. There is room for it, so it takes no memory.
-pub(crate) fn number_hop(hops: &mut HopTable, own: Option<Hop>, elem: &Elem)
-    requires room { 1 ≤ hops.old.spare }
-    requires few { length (hops_after hops.old.list (elem_as elem.now ∷ [])) ≤ most_hops }
-    requires own { IsOwnNumber hops.old.list elem.now own }
-    ensures { hops.new.list ≡ hops_after hops.old.list (elem_as elem.now ∷ []) }
-{
-    if let Elem::Put(_, _, _, hop) = elem {
-        if is_new(hops, own) {
-            let _number = hops.number(hop);
-        }
-    }
-}
-
-/// The number that the hop of a route has or gets.
-fn number_next(hops: &HopTable, hop: &Addr) -> Result<Hop, HopsFull>
-    requires { length hops.now.list ≤ most_hops }
-    ensures full { IsErr result ↔ (most_hops < length (with_hop hops.now.list (addr_as hop.now))) }
-    ensures own { IfOk result (λ n. Some n.0 ≡ number_of (with_hop hops.now.list (addr_as hop.now)) (addr_as hop.now)) }
-{
-    let own = hops.next(hop)?;
-    Ok(own)
-}
-
-/// Numbers the hop of a route, if it has no number yet; `own` is the number that it has or gets. There is room for it, so it takes
-/// no memory.
-fn number_route(hops: &mut HopTable, own: Hop, hop: &Addr)
-    requires room { 1 ≤ hops.old.spare }
-    requires few { length (with_hop hops.old.list (addr_as hop.now)) ≤ most_hops }
-    requires own { Some own.0 ≡ number_of (with_hop hops.old.list (addr_as hop.now)) (addr_as hop.now) }
-    ensures { hops.new.list ≡ with_hop hops.old.list (addr_as hop.now) }
-{
-    if is_new(hops, Some(own)) {
-        let _number = hops.number(hop);
-    }
-}
-
-/// The number of a hop once an elementary event was taken: the one that it has, or the one that the event gives.
-fn number_after(hops: &HopTable, own: Option<Hop>, hop: &Addr) -> Hop
-    ensures { (after : List Address) (elem : model_elem)
-        → after ≡ hops_after hops.now.list (elem ∷ [])
-        → IsNewNumber hops.now.list after own → HasNumber after (Some (addr_as hop.now))
-        → result.0 ≡ number_in after (addr_as hop.now) }
-{
-    hops.find(hop).or(own).unwrap_or(Hop::NONE)
-}
-
-/// Whether both hops are one, or there is none before and after.
-fn is_same(before: &Option<Addr>, after: &Option<Addr>) -> bool
-    ensures { is_other (option_map addr_as before.now) (option_map addr_as after.now) ≡ not result }
-{
-    match (before, after) {
-        (None, None) => true,
-        (Some(before), Some(after)) => before == after,
-        _ => false,
-    }
-}
-
-/// The route of a choice that changes its hop, with the number of the hop after; `Hop::NONE` where there is none.
-pub(crate) fn changed_route(
-    hops: &HopTable,
-    own: Option<Hop>,
-    choice: &Choice,
-) -> Option<(Prefix, Hop)>
-    ensures { (after : List Address) (elem : model_elem)
-        → after ≡ hops_after hops.now.list (elem ∷ []) → IsNewNumber hops.now.list after own
-        → HasNumber after (option_map addr_as choice.now.after)
-        → IsRouteOf after choice.now result }
-{
-    if is_same(&choice.before, &choice.after) {
-        return None;
-    }
-    let hop = match choice.after {
-        Some(hop) => number_after(hops, own, &hop),
-        None => Hop::NONE,
-    };
-    Some((choice.prefix, hop))
-}
-
-/// How many changes an event's first step made, if the event changed a route.
-fn moves_made(route: Option<(Prefix, Hop)>, changes: &EventChanges) -> Option<u64>
-    ensures { result ≡ option_map (λ r. changes.now.first) route }
-{
-    match route {
-        Some(_) => Some(changes.first as u64),
-        None => None,
-    }
+    ghost invariant = { λ e. AreSound e.parts };
 }
 
 impl Engine {
@@ -217,15 +80,17 @@ impl Engine {
         } }
     {
         Engine {
-            alloc,
-            candidates: Candidates::new(alloc),
-            hops: HopTable::new(alloc),
-            tables: Tables::new(alloc),
-            needs: FamilyNeeds::none(),
-            events: 0,
-            moves: None,
-            limits,
-            is_loaded: false,
+            parts: Parts {
+                alloc,
+                candidates: Candidates::new(alloc),
+                hops: HopTable::new(alloc),
+                tables: Tables::new(alloc),
+                needs: FamilyNeeds::none(),
+                events: 0,
+                moves: None,
+                limits,
+                is_loaded: false,
+            },
         }
     }
 
@@ -233,14 +98,14 @@ impl Engine {
     pub fn is_loaded(&self) -> bool
         ensures { result ≡ self.now.loaded }
     {
-        self.is_loaded
+        self.parts.is_loaded
     }
 
     /// The hops with their numbers.
     pub fn hops(&self) -> &HopTable
         ensures { result.now.list ≡ self.now.hops }
     {
-        &self.hops
+        &self.parts.hops
     }
 
     /// The event as elementary events: a cut for each route of a peer whose session is lost, in the order of prefixes, then
@@ -253,7 +118,7 @@ impl Engine {
         ensures { IfOk result (λ elems. map elem_as elems.items
             ≡ elems_of self.now.candidates (event_as event.now)) }
     {
-        self.candidates.elementary(event)
+        self.parts.candidates.elementary(event)
     }
 
     /// Takes an elementary event of the load. Its hop gets a number, chosen or not. No table is touched.
@@ -270,10 +135,10 @@ impl Engine {
         ensures fits { (t : TrieFull) → ¬ (IsErrOf result (EngineError.TrieFull t)) }
         ensures err { OnErr result (self.new ≡ self.old) }
     {
-        let own = number_put(&self.hops, elem)?;
-        self.hops.room()?;
-        self.candidates.load(elem)?;
-        number_hop(&mut self.hops, own, elem);
+        let own = number_put(&self.parts.hops, elem)?;
+        self.parts.hops.room()?;
+        self.parts.candidates.load(elem)?;
+        number_hop(&mut self.parts.hops, own, elem);
         Ok(())
     }
 
@@ -298,10 +163,10 @@ impl Engine {
         ensures fits { (t : TrieFull) → ¬ (IsErrOf result (EngineError.TrieFull t)) }
         ensures err { OnErr result (self.new ≡ self.old) }
     {
-        let own = number_next(&self.hops, hop)?;
-        self.hops.room()?;
-        self.candidates.load_put(via, prefix, path, hop)?;
-        number_route(&mut self.hops, own, hop);
+        let own = number_next(&self.parts.hops, hop)?;
+        self.parts.hops.room()?;
+        self.parts.candidates.load_put(via, prefix, path, hop)?;
+        number_route(&mut self.parts.hops, own, hop);
         Ok(())
     }
 
@@ -334,30 +199,8 @@ impl Engine {
             → IsShortFor self.old (routes_after (elem_as elem.now) self.old) t }
         ensures err { OnErr result (self.new ≡ self.old) }
     {
-        let own = number_put(&self.hops, elem)?;
-        self.hops.room()?;
-        let pick = self.candidates.plan(elem)?;
-        let event = self.events + 1;
-        let route = changed_route(&self.hops, own, pick.choice());
-        let due = is_due(self.limits.every, event);
-        let limits = &self.limits;
-        let fitting = plan_fitting(
-            &mut self.tables,
-            self.alloc,
-            route,
-            due,
-            limits.fewest,
-            self.needs,
-            &limits.sizes,
-        )?;
-        // from here on nothing takes memory
-        self.candidates.commit(pick);
-        number_hop(&mut self.hops, own, elem);
-        self.events = event;
-        self.needs = fitting.needs;
-        let changes = self.tables.commit(fitting.plan);
-        self.moves = moves_made(route, &changes);
-        Ok(changes)
+        let waiting = self.parts.plan(elem)?;
+        Ok(self.parts.commit(waiting))
     }
 
     /// How many changes the last event after the load needed before its snapshot; `None` exactly where it changed no chosen hop, or
@@ -365,7 +208,7 @@ impl Engine {
     pub fn last_moves(&self) -> Option<u64>
         ensures { result ≡ self.now.moves }
     {
-        self.moves
+        self.parts.moves
     }
 
     /// The routes: each prefix for which a peer offers one, with the number of the chosen one's hop, in the order of prefixes.
@@ -376,14 +219,14 @@ impl Engine {
     pub fn routes(&self) -> Result<Vec<Entry>, AllocError>
         ensures { IfOk result (λ v. map entry_as v.items ≡ engine_routes self.now) }
     {
-        self.candidates.route_entries(&self.hops)
+        self.parts.candidates.route_entries(&self.parts.hops)
     }
 
     /// The tables of the routes, before their first snapshot.
     fn tables_of_routes(&self) -> Result<Tables, AllocError>
         ensures { IfOk result (AreOfRoutes (engine_routes self.now)) }
     {
-        let tables = Tables::load(self.alloc, &self.routes()?)?;
+        let tables = Tables::load(self.parts.alloc, &self.routes()?)?;
         Ok(tables)
     }
 
@@ -407,12 +250,12 @@ impl Engine {
         ensures err { OnErr result (self.new ≡ self.old) }
     {
         let tables = self.tables_of_routes()?;
-        let needs = tables.needs(self.limits.sizes.direct);
-        needs.fit(&self.limits.sizes)?;
+        let needs = tables.needs(self.parts.limits.sizes.direct);
+        needs.fit(&self.parts.limits.sizes)?;
         let (tables, entries) = tables.filled()?;
-        self.tables = tables;
-        self.needs = needs;
-        self.is_loaded = true;
+        self.parts.tables = tables;
+        self.parts.needs = needs;
+        self.parts.is_loaded = true;
         Ok(entries)
     }
 
@@ -424,7 +267,7 @@ impl Engine {
     pub fn table(&self) -> Result<Vec<Entry>, AllocError>
         ensures { IfOk result (λ v. map entry_as v.items ≡ self.now.table) }
     {
-        self.tables.table()
+        self.parts.tables.table()
     }
 
     /// The least table of the routes, with the kept one as the old table, and the rows that prove it least; IPv4 first. Before the
@@ -439,7 +282,7 @@ impl Engine {
         ensures proof { IfOk result (λ v. map row_as v.proof.items
             ≡ certificate_of (routes_told self.now)) }
     {
-        self.tables.least()
+        self.parts.tables.least()
     }
 
     /// How many places the nodes and the leaves of tries of the routes need, each at most what its arena has; before the load
@@ -448,7 +291,7 @@ impl Engine {
         ensures needs { result ≡ needs_of self.now.sizes.direct (routes_told self.now) }
         ensures few { AreFew result }
     {
-        self.needs
+        self.parts.needs
     }
 
     /// Tries of the routes, to look addresses up; before the load ended, of no routes. They have room.
@@ -459,9 +302,9 @@ impl Engine {
     pub fn tries(&self) -> Result<Tries<'_>, AllocError>
         ensures { IfOk result (AreTriesOf self.now.sizes.direct (routes_told self.now)) }
     {
-        let v4 = self.tables.tree(Family::V4);
-        let v6 = self.tables.tree(Family::V6);
-        match Tries::build(self.alloc, &self.limits.sizes, v4, v6) {
+        let v4 = self.parts.tables.tree(Family::V4);
+        let v6 = self.parts.tables.tree(Family::V6);
+        match Tries::build(self.parts.alloc, &self.parts.limits.sizes, v4, v6) {
             Ok(tries) => Ok(tries),
             Err(TriesError::NoMemory) => Err(AllocError),
             Err(TriesError::Full(_)) => unreachable!(),
@@ -477,12 +320,24 @@ impl Engine {
         ensures hops { result.1.list ≡ self.hops }
     {
         let final_fib = FinalFib {
-            alloc: self.alloc,
-            tables: self.tables,
-            needs: self.needs,
-            sizes: self.limits.sizes,
+            alloc: self.parts.alloc,
+            tables: self.parts.tables,
+            needs: self.parts.needs,
+            sizes: self.parts.limits.sizes,
         };
-        (final_fib, self.hops)
+        (final_fib, self.parts.hops)
+    }
+
+    /// The engine with events that are planned, and then made or undone.
+    pub fn staged(self) -> Staged
+        requires { self.loaded ≡ true }
+        ensures held { result.held ≡ self }
+        ensures rest { result.planned ≡ None }
+    {
+        Staged {
+            parts: self.parts,
+            waiting: None,
+        }
     }
 
     /// What each elementary event after the load does to the routes, computed in advance, where none came yet: the tables are let
@@ -490,7 +345,7 @@ impl Engine {
     pub fn turns(self) -> Turns
         ensures { (load : List model_elem) → EngineStands load [] self → AreTurnsOf load [] result }
     {
-        drop(self.tables);
-        Turns::new(self.alloc, self.candidates, self.hops)
+        drop(self.parts.tables);
+        Turns::new(self.parts.alloc, self.parts.candidates, self.parts.hops)
     }
 }

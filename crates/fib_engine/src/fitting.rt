@@ -6,7 +6,7 @@ ghost use Rattle.smalta_keep.specs.Views.{moved_of};
 ghost use Rattle.orig_tree.specs.Views.{InPlace};
 ghost use Rattle.route_tries.specs.Sizes.{AreFew, first_short, shortage_as, sizes_as};
 ghost use Rattle.route_tries.specs.declared.sizes.TrieFull.{TrieFull};
-ghost use Rattle.fib_engine.specs.Tables.{AreAlike, AreBoth, AreTold, ArePlanned, ArePut, IsReplaced, KeepRoutes, KeepTables, both_firsts, gathered, needs_in, needs_put};
+ghost use Rattle.fib_engine.specs.Tables.{AreAlike, AreBoth, AreTold, ArePlanned, ArePut, AreUndone, IsReplaced, KeepRoutes, KeepTables, both_firsts, gathered, needs_in, needs_put};
 
 use crate::error::EngineError;
 use crate::tables::{Plan, Tables};
@@ -61,6 +61,7 @@ fn plan_route(
         ≡ gathered (moved_of p.plan.v4) (moved_of p.plan.v6)) }
     ensures first { IfOk result (λ p. p.plan.changes.first
         ≡ length (both_firsts (moved_of p.plan.v4) (moved_of p.plan.v6))) }
+    ensures undone { IfOk result (λ p. AreUndone p.plan tables.new tables.old) }
     ensures needs { IfOk result (λ p. p.needs ≡ needs_put sizes.now.direct (Some route) tables.old) }
     ensures fits { OnOk result (first_short (sizes_as sizes.now)
         (needs_put sizes.now.direct (Some route) tables.old) ≡ None) }
@@ -111,6 +112,7 @@ pub fn plan_fitting(
         ≡ gathered (moved_of p.plan.v4) (moved_of p.plan.v6)) }
     ensures first { IfOk result (λ p. p.plan.changes.first
         ≡ length (both_firsts (moved_of p.plan.v4) (moved_of p.plan.v6))) }
+    ensures undone { IfOk result (λ p. AreUndone p.plan tables.new tables.old) }
     ensures needs { IfOk result (λ p. p.needs ≡ needs_put sizes.now.direct route tables.old) }
     ensures fits { OnOk result (first_short (sizes_as sizes.now)
         (needs_put sizes.now.direct route tables.old) ≡ None) }

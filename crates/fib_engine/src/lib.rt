@@ -9,6 +9,9 @@
 //! Lookups go to tries of the routes, which are built when they are asked for. What tries would need is kept as numbers from the
 //! load's end on, so that an event after which an arena would be too small is refused at once.
 //!
+//! Who stores an event's changes word by word elsewhere takes a `Staged` engine: an event is planned there, and then made or undone.
+//! `Engine::apply` goes through the very same plan.
+//!
 //! Where no more events come an engine settles: the candidates are let go, and what is left is told from the trees. Where only
 //! what events do to the routes is asked for, and no table, an engine leaves its `Turns`.
 #![tactic(auto)]
@@ -17,6 +20,9 @@ mod engine;
 mod error;
 mod final_fib;
 mod fitting;
+mod numbers;
+mod parts;
+mod staged;
 mod tables;
 mod turns;
 
@@ -24,5 +30,6 @@ pub use engine::{Engine, Limits};
 pub use error::EngineError;
 pub use final_fib::FinalFib;
 pub use route_tries::{FamilyNeeds, Found, Needs, Sizes, TrieFull, Tries};
+pub use staged::{Planned, Staged};
 pub use tables::EventChanges;
 pub use turns::Turns;

@@ -9,7 +9,7 @@ ghost use Rattle.fib_prefix.specs.Views.{elem_as, event_as};
 ghost use Rattle.fib_engine.specs.Numbers.{IsNewNumber, IsOwnNumber};
 ghost use Rattle.fib_engine.specs.Turns.{AreTurnsOf, TakesTurn, turn_as};
 
-use crate::engine::{changed_route, number_hop, number_put};
+use crate::numbers::{changed_route, number_hop, number_put};
 use fib_prefix::{Elem, Event, Hop, HopTable, Prefix};
 use route_choice::Candidates;
 use std::alloc::{AllocError, Global};

@@ -16,19 +16,19 @@ use Rattle.fib_engine.proofs.engine.Engine.load_put.Goals as goal
 pub invariant_of-self-2 : goal.invariant_of-self-2
 invariant_of-self-2 c =
     let t = c.self.inside in
-    let unloaded : t.is_loaded ≡ false = ap (λ (e : EngineState). e.loaded) c.self.view_is ∙ c.requires in
+    let unloaded : t.parts.is_loaded ≡ false = ap (λ (e : EngineState). e.loaded) c.self.view_is ∙ c.requires in
     let elem = put_as c.args.via.now c.args.prefix.now c.args.path c.args.hop.now in
-    let hops : c.number_route.new.hops.list ≡ hops_after t.hops.list (elem ∷ []) = c.number_route.ensures ∙ ap (λ (hs : List Address). with_hop hs (addr_as c.args.hop.now)) c.room.ensures.list in (
-      sound_load t.candidates.candidates c.load_put.new.self.candidates t.hops.list c.number_route.new.hops.list elem t.is_loaded t.tables unloaded c.self.invariant.0 (is_elem (Put c.args.via.now c.args.prefix.now c.args.path c.args.hop.now)) c.in_ok-load_put.ensures.candidates hops
-          (subst (λ (hs : List Address). length hs ≤ most_hops) (sym hops) (not_over (length (hops_after t.hops.list (elem ∷ []))) c.in_ok-own.ensures.full.1)),
-      subst (λ (E : Entries). AreKeptNeeds (sizes_as t.limits.sizes) E t.needs) (ap (λ l. if_loaded l (entries_of t.hops.list t.candidates.candidates)) unloaded ∙ sym (ap (λ l. if_loaded l (entries_of c.number_route.new.hops.list c.load_put.new.self.candidates)) unloaded)) c.self.invariant.1,
+    let hops : c.number_route.new.hops.list ≡ hops_after t.parts.hops.list (elem ∷ []) = c.number_route.ensures ∙ ap (λ (hs : List Address). with_hop hs (addr_as c.args.hop.now)) c.room.ensures.list in (
+      sound_load t.parts.candidates.candidates c.load_put.new.self.candidates t.parts.hops.list c.number_route.new.hops.list elem t.parts.is_loaded t.parts.tables unloaded c.self.invariant.0 (is_elem (Put c.args.via.now c.args.prefix.now c.args.path c.args.hop.now)) c.in_ok-load_put.ensures.candidates hops
+          (subst (λ (hs : List Address). length hs ≤ most_hops) (sym hops) (not_over (length (hops_after t.parts.hops.list (elem ∷ []))) c.in_ok-own.ensures.full.1)),
+      subst (λ (E : Entries). AreKeptNeeds (sizes_as t.parts.limits.sizes) E t.parts.needs) (ap (λ l. if_loaded l (entries_of t.parts.hops.list t.parts.candidates.candidates)) unloaded ∙ sym (ap (λ l. if_loaded l (entries_of c.number_route.new.hops.list c.load_put.new.self.candidates)) unloaded)) c.self.invariant.1,
     )
 
 pub returns-clause-loading : goal.returns-clause-loading
 returns-clause-loading c = λ load s.
     let t = c.self.inside in
     let elem = put_as c.args.via.now c.args.prefix.now c.args.path c.args.hop.now in
-    let new : EngineState = record { every = t.limits.every; fewest = t.limits.fewest; sizes = sizes_as t.limits.sizes; candidates = c.load_put.new.self.candidates; hops = c.number_route.new.hops.list; table = table_of t.tables; loaded = t.is_loaded; events = t.events; moves = t.moves } in
+    let new : EngineState = record { every = t.parts.limits.every; fewest = t.parts.limits.fewest; sizes = sizes_as t.parts.limits.sizes; candidates = c.load_put.new.self.candidates; hops = c.number_route.new.hops.list; table = table_of t.parts.tables; loaded = t.parts.is_loaded; events = t.parts.events; moves = t.parts.moves } in
     loading_more load elem c.args.self.now new (is_elem (Put c.args.via.now c.args.prefix.now c.args.path c.args.hop.now)) (c.in_ok-load_put.ensures.candidates ∙ ap (λ (e : EngineState). after_elem e.candidates elem) c.self.view_is)
     (c.number_route.ensures ∙ (ap (λ (hs : List Address). with_hop hs (addr_as c.args.hop.now)) c.room.ensures.list ∙ ap (λ (e : EngineState). hops_after e.hops (elem ∷ [])) c.self.view_is))
     (ap (λ (e : EngineState). e.table) c.self.view_is) (ap (λ (e : EngineState). e.loaded) c.self.view_is) (ap (λ (e : EngineState). e.events) c.self.view_is) (ap (λ (e : EngineState). e.moves) c.self.view_is) s

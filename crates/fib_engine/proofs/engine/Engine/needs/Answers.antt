@@ -13,5 +13,5 @@ returns-clause-needs c = c.self.invariant.1.needs ∙ ap (λ (h : EngineState). 
 pub returns-clause-few : goal.returns-clause-few
 returns-clause-few c =
     let t = c.self.inside in
-    let n = needs_of t.limits.sizes.direct (if_loaded t.is_loaded (entries_of t.hops.list t.candidates.candidates)) in
-    subst (λ (m : FamilyNeeds). AreFew m) (sym c.self.invariant.1.needs) (fit_few (sizes_as t.limits.sizes) t.limits.sizes.few_nodes t.limits.sizes.few_leaves n c.self.invariant.1.fit)
+    let n = needs_of t.parts.limits.sizes.direct (if_loaded t.parts.is_loaded (entries_of t.parts.hops.list t.parts.candidates.candidates)) in
+    subst (λ (m : FamilyNeeds). AreFew m) (sym c.self.invariant.1.needs) (fit_few (sizes_as t.parts.limits.sizes) t.parts.limits.sizes.few_nodes t.parts.limits.sizes.few_leaves n c.self.invariant.1.fit)

@@ -15,16 +15,16 @@ use Rattle.fib_engine.proofs.engine.Engine.tables_of_routes.Goals as goal
 pub load-requires : goal.load-requires
 load-requires c =
     let t = c.self.inside in
-    let C = t.candidates.candidates in
+    let C = t.parts.candidates.candidates in
     let is : map entry_as c.deref.result.now ≡ engine_routes c.args.self.now = ap (map entry_as) c.deref.ensures.value ∙ c.in_ok-routes.ensures in
-    subst (λ (E : Entries). AllByRecursion (λ (r : Prefix × ℕ). 1 ≤ r.1) E) (sym (is ∙ ap engine_routes (sym c.self.view_is))) (numbers_least t.hops.list (routes_of C) (routes_have C t.hops.list t.is_loaded t.tables c.self.invariant.0))
+    subst (λ (E : Entries). AllByRecursion (λ (r : Prefix × ℕ). 1 ≤ r.1) E) (sym (is ∙ ap engine_routes (sym c.self.view_is))) (numbers_least t.parts.hops.list (routes_of C) (routes_have C t.parts.hops.list t.parts.is_loaded t.parts.tables c.self.invariant.0))
 
 pub returns : goal.returns
 returns c =
     let t = c.self.inside in
     let E = engine_routes c.args.self.now in
     let is : map entry_as c.deref.result.now ≡ E = ap (map entry_as) c.deref.ensures.value ∙ c.in_ok-routes.ensures in
-    let placed = subst (λ (e : EngineState). InPlace (engine_routes e)) c.self.view_is (routes_placed t.candidates.candidates t.hops.list t.is_loaded t.tables c.self.invariant.0) in
+    let placed = subst (λ (e : EngineState). InPlace (engine_routes e)) c.self.view_is (routes_placed t.parts.candidates.candidates t.parts.hops.list t.parts.is_loaded t.parts.tables c.self.invariant.0) in
     let given = c.in_ok-tables.ensures.given in
     record {
       families = c.in_ok-tables.ensures.both;

@@ -13,7 +13,7 @@ pub returns-in-Ok : goal.returns-in-Ok
 returns-in-Ok c =
     let t = c.self.inside in
     let s = c.self.invariant.0 in
-    let E = if_loaded t.is_loaded (entries_of t.hops.list t.candidates.candidates) in
+    let E = if_loaded t.parts.is_loaded (entries_of t.parts.hops.list t.parts.candidates.candidates) in
     record {
       direct = c.in-Ok.ensures.direct ∙ ap (λ (h : EngineState). h.sizes.direct) c.self.view_is;
       v4 = ap (of_family V4) (c.in-Ok.ensures.routes.0 ∙ (ap (λ (l : Labels). l.routes) c.tree-v4.ensures ∙ s.v4.routes)) ∙ (of_only V4 E ∙ ap (λ (h : EngineState). of_family V4 (routes_told h)) c.self.view_is);
@@ -24,8 +24,8 @@ pub unreachable-requires : goal.unreachable-requires
 unreachable-requires c =
     let t = c.self.inside in
     let s = c.self.invariant.0 in
-    let z = sizes_as t.limits.sizes in
-    let E = if_loaded t.is_loaded (entries_of t.hops.list t.candidates.candidates) in
+    let z = sizes_as t.parts.limits.sizes in
+    let E = if_loaded t.parts.is_loaded (entries_of t.parts.hops.list t.parts.candidates.candidates) in
     let known = needs_known z.direct c.tree-v4.result.now.routes c.tree-v6.result.now.routes E (ap (λ (l : Labels). l.routes) c.tree-v4.ensures ∙ s.v4.routes) (ap (λ (l : Labels). l.routes) c.tree-v6.ensures ∙ s.v6.routes) in
     let short = c.build.ensures.full c.in-Err-Full.field-0-0 (c.in-Err-Full.is ∙ ap Err c.in-Err-Full.field-0-is) in
     not_both (ap (first_short z) known ∙ c.self.invariant.1.fit) short

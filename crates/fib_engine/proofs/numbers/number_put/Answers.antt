@@ -2,7 +2,7 @@ use Rattle.std.proofs.Common.{refl, ap}
 use Rattle.std.specs.Prelude.{is_err}
 use Rattle.std.proofs.lemmas.Result.{err_from_is_err_and}
 use Rattle.fib_engine.proofs.Numbering.{full_put, fits_put, new_put}
-use Rattle.fib_engine.proofs.engine.number_put.Goals as goal
+use Rattle.fib_engine.proofs.numbers.number_put.Goals as goal
 
 pub returns-in_err-next-in-Put-clause-full : goal.returns-in_err-next-in-Put-clause-full
 returns-in_err-next-in-Put-clause-full c = (

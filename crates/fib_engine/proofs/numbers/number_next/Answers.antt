@@ -3,7 +3,7 @@ use Rattle.std.specs.Prelude.{is_err}
 use Rattle.std.proofs.lemmas.Result.{err_from_is_err_and}
 use Rattle.fib_addr.specs.Views.{addr_as}
 use Rattle.fib_engine.proofs.Numbering.{full_hop, fits_hop}
-use Rattle.fib_engine.proofs.engine.number_next.Goals as goal
+use Rattle.fib_engine.proofs.numbers.number_next.Goals as goal
 
 pub returns-in_err-own-clause-full : goal.returns-in_err-own-clause-full
 returns-in_err-own-clause-full c = (

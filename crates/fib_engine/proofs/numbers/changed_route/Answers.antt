@@ -4,8 +4,8 @@ use Rattle.fib_addr.specs.Views.{addr_as}
 use Rattle.fib_addr.specs.declared.addr.Addr.{Addr}
 use Rattle.fib_addr.specs.declared.entry.Hop.{Hop}
 use Rattle.fib_engine.specs.Numbers.{HasNumber, number_or_none}
-use Rattle.fib_engine.proofs.engine.changed_route.Goals as goal
-use Rattle.fib_engine.proofs.engine.changed_route.Goals.{in-Some, in-None}
+use Rattle.fib_engine.proofs.numbers.changed_route.Goals as goal
+use Rattle.fib_engine.proofs.numbers.changed_route.Goals.{in-Some, in-None}
 
 pub returns : goal.returns
 returns c = λ after elem e own has. (

@@ -1,0 +1,61 @@
+-- What is seen of an engine's parts, and what is known of them while an elementary event is planned.
+use Rattle.std.specs.Prelude.{◌≡◌, ◌≤◌, ◌<◌, ℕ, ◌+◌, ◌^◌, [], ◌∷◌, length, map, true, None}
+use Rattle.route_model.specs.Events.{Elem}
+use Rattle.kept_model.specs.Feed.{entries_of, hops_after}
+use Rattle.kept_model.specs.Kept.{is_due}
+use Rattle.fib_addr.specs.Hops.{most_hops}
+use Rattle.fib_prefix.specs.Views.{elem_as}
+use Rattle.fib_delta.specs.Views.{change_as}
+use Rattle.route_choice.specs.Held.{IsPlanned, pick_elem, pick_choice}
+use Rattle.smalta_keep.specs.Views.{moved_of}
+use Rattle.route_tries.specs.Sizes.{first_short, sizes_as}
+use Rattle.fib_engine.specs.Tables.{Both, AreTold, ArePlanned, ArePut, AreUndone, KeepTables, both_firsts, gathered, needs_put, table_of}
+use Rattle.fib_engine.specs.Numbers.{IsOwnNumber, IsRouteOf}
+use Rattle.fib_engine.specs.Held.{AreKeptNeeds, EngineState, IsSound, if_loaded}
+use Rattle.fib_engine.specs.declared.parts.Parts as code_parts
+use Rattle.fib_engine.specs.declared.parts.Waiting as code_waiting
+
+-- what is seen of them
+abbrev pub held_in : code_parts.Parts → EngineState
+held_in p = record {
+  every = p.limits.every;
+  fewest = p.limits.fewest;
+  sizes = sizes_as p.limits.sizes;
+  candidates = p.candidates.candidates;
+  hops = p.hops.list;
+  table = table_of p.tables;
+  loaded = p.is_loaded;
+  events = p.events;
+  moves = p.moves;
+}
+
+-- they are sound, and so are the needs
+abbrev pub AreSound : code_parts.Parts → Type 0
+AreSound p = IsSound p.candidates.candidates p.hops.list p.is_loaded p.tables × AreKeptNeeds (sizes_as p.limits.sizes) (if_loaded p.is_loaded (entries_of p.hops.list p.candidates.candidates)) p.needs
+
+-- the elementary event that is planned
+abbrev pub waiting_elem : code_waiting.Waiting → Elem
+waiting_elem w = elem_as w.elem
+
+-- An event is planned: the load ended, and what the tables were before is sound; with all that making it or undoing it needs.
+pub record IsWaiting (w : code_waiting.Waiting) (p : code_parts.Parts) : Type 0 where
+  pub loaded : p.is_loaded ≡ true
+  pub before : Both
+  pub sound : IsSound p.candidates.candidates p.hops.list true before
+  pub kept : AreKeptNeeds (sizes_as p.limits.sizes) (entries_of p.hops.list p.candidates.candidates) p.needs
+  pub tables : KeepTables before p.tables
+  pub put : ArePut w.route before p.tables
+  pub told : AreTold p.tables p.limits.fewest w.route (is_due p.limits.every (p.events + 1)) w.fitting.plan.v4 w.fitting.plan.v6
+  pub planned : ArePlanned p.tables w.fitting.plan
+  pub undone : AreUndone w.fitting.plan p.tables before
+  pub changes : map change_as w.fitting.plan.changes.changes.items ≡ gathered (moved_of w.fitting.plan.v4) (moved_of w.fitting.plan.v6)
+  pub first : w.fitting.plan.changes.first ≡ length (both_firsts (moved_of w.fitting.plan.v4) (moved_of w.fitting.plan.v6))
+  pub pick : IsPlanned p.candidates w.pick
+  pub elem : pick_elem w.pick ≡ waiting_elem w
+  pub route : IsRouteOf (hops_after p.hops.list (waiting_elem w ∷ [])) (pick_choice w.pick) w.route
+  pub own : IsOwnNumber p.hops.list w.elem w.own
+  pub few : length (hops_after p.hops.list (waiting_elem w ∷ [])) ≤ most_hops
+  pub room : 1 ≤ p.hops.spare
+  pub counted : p.events + 1 < 2 ^ 64
+  pub needs : w.fitting.needs ≡ needs_put p.limits.sizes.direct w.route before
+  pub fits : first_short (sizes_as p.limits.sizes) (needs_put p.limits.sizes.direct w.route before) ≡ None

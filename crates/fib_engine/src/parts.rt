@@ -1,0 +1,137 @@
+//! What an engine is made of, and how an elementary event is planned in it, and then made or undone.
+
+ghost use Rattle.std.specs.Prelude.{◌≡◌, ◌<◌, ◌+◌, ◌^◌, ◌↔◌, length, map, option_map, true, IfOk, OnErr, IsErrOf};
+ghost use Rattle.kept_model.specs.Kept.{is_due as due_at};
+ghost use Rattle.fib_prefix.specs.Views.{elem_as};
+ghost use Rattle.fib_delta.specs.Views.{change_as};
+ghost use Rattle.route_tries.specs.declared.sizes.TrieFull.{TrieFull};
+ghost use Rattle.fib_engine.specs.Stands.{IsShortFor, IsTooMany, TakesElem, changes_of, first_of, routes_after};
+ghost use Rattle.fib_engine.specs.Parts.{AreSound, IsWaiting, held_in, waiting_elem};
+
+use crate::engine::Limits;
+use crate::error::EngineError;
+use crate::fitting::{FittingPlan, plan_fitting};
+use crate::numbers::{changed_route, number_hop, number_put};
+use crate::tables::{EventChanges, Tables};
+use fib_prefix::{Elem, Hop, HopTable, Prefix};
+use route_choice::{Candidates, Pick};
+use route_tries::FamilyNeeds;
+use std::alloc::Global;
+
+/// The parts of an engine. It has no invariant of its own, since while an event is planned the trees have the routes after it: what
+/// is known of the parts stands in the clauses.
+#[derive(Drop)]
+pub(crate) struct Parts {
+    pub(crate) alloc: Global,
+    pub(crate) candidates: Candidates,
+    pub(crate) hops: HopTable,
+    // empty, and of no routes, until the load ends; so are the needs those of no routes
+    pub(crate) tables: Tables,
+    pub(crate) needs: FamilyNeeds,
+    pub(crate) events: u64,
+    // how many changes the first step of the last event made, if that changed a chosen hop
+    pub(crate) moves: Option<u64>,
+    pub(crate) limits: Limits,
+    pub(crate) is_loaded: bool,
+}
+
+/// A planned event with all that it takes.
+#[derive(Drop)]
+pub(crate) struct Waiting {
+    pub(crate) elem: Elem,
+    // the number that its hop has or gets, if it puts a route
+    pub(crate) own: Option<Hop>,
+    // the route that changes, if it changes a chosen hop
+    pub(crate) route: Option<(Prefix, Hop)>,
+    pub(crate) pick: Pick,
+    pub(crate) fitting: FittingPlan,
+}
+
+/// Whether a snapshot follows the elementary event of this number.
+fn is_due(every: u32, event: u64) -> bool
+    ensures { result ≡ due_at every event }
+{
+    every != 0 && event % u64::from(every) == 0
+}
+
+/// How many changes an event's first step made, if the event changed a route.
+fn moves_made(route: Option<(Prefix, Hop)>, changes: &EventChanges) -> Option<u64>
+    ensures { result ≡ option_map (λ r. changes.now.first) route }
+{
+    match route {
+        Some(_) => Some(changes.first as u64),
+        None => None,
+    }
+}
+
+impl Parts {
+    /// Plans an elementary event after the load: all memory that it takes is taken. Nothing is seen of it but in the trees, which
+    /// have the routes after it. The plan is to be committed or undone before anything else changes.
+    ///
+    /// # Errors
+    ///
+    /// As `Engine::apply`'s; then all is as it was.
+    pub(crate) fn plan(&mut self, elem: &Elem) -> Result<Waiting, EngineError>
+        requires sound { AreSound self.old }
+        requires loaded { self.old.is_loaded ≡ true }
+        requires few { self.old.events + 1 < 2 ^ 64 }
+        ensures seen { held_in self.new ≡ held_in self.old }
+        ensures elem { IfOk result (λ w. waiting_elem w ≡ elem_as elem.now) }
+        ensures waiting { IfOk result (λ w. IsWaiting w self.new) }
+        ensures full { IsErrOf result EngineError.HopsFull
+            ↔ IsTooMany (elem_as elem.now) (held_in self.old) }
+        ensures short { (t : TrieFull) → IsErrOf result (EngineError.TrieFull t)
+            → IsShortFor (held_in self.old) (routes_after (elem_as elem.now) (held_in self.old)) t }
+        ensures err { OnErr result (AreSound self.new) }
+    {
+        let own = number_put(&self.hops, elem)?;
+        self.hops.room()?;
+        let pick = self.candidates.plan(elem)?;
+        let route = changed_route(&self.hops, own, pick.choice());
+        let limits = &self.limits;
+        let due = is_due(limits.every, self.events + 1);
+        let fitting = plan_fitting(
+            &mut self.tables,
+            self.alloc,
+            route,
+            due,
+            limits.fewest,
+            self.needs,
+            &limits.sizes,
+        )?;
+        Ok(Waiting {
+            elem: *elem,
+            own,
+            route,
+            pick,
+            fitting,
+        })
+    }
+
+    /// Makes a planned event, and gives its changes. It takes no memory.
+    pub(crate) fn commit(&mut self, waiting: Waiting) -> EventChanges
+        requires { IsWaiting waiting self.old }
+        ensures sound { AreSound self.new }
+        ensures takes { TakesElem (waiting_elem waiting) (held_in self.old) (held_in self.new) }
+        ensures changes { map change_as result.changes.items
+            ≡ changes_of (waiting_elem waiting) (held_in self.old) }
+        ensures first { result.first ≡ length (first_of (waiting_elem waiting) (held_in self.old)) }
+    {
+        self.candidates.commit(waiting.pick);
+        number_hop(&mut self.hops, waiting.own, &waiting.elem);
+        self.events += 1;
+        self.needs = waiting.fitting.needs;
+        let changes = self.tables.commit(waiting.fitting.plan);
+        self.moves = moves_made(waiting.route, &changes);
+        changes
+    }
+
+    /// Forgets a planned event: all is as it was before it. It takes no memory.
+    pub(crate) fn undo(&mut self, waiting: Waiting)
+        requires { IsWaiting waiting self.old }
+        ensures sound { AreSound self.new }
+        ensures seen { held_in self.new ≡ held_in self.old }
+    {
+        self.tables.undo(waiting.fitting.plan);
+    }
+}
