@@ -155,12 +155,15 @@ fn lines_that_are_not_printed(rt: HostRuntime) -> Result<(), Fail> {
             out_len: 0,
             err,
         };
-        let given = Given {
-            printed: &[],
-            printed_end,
-            ..CHECK
-        };
-        compare(&rt, "a bad line", &given, &expected)?;
+        for at_most in [1, 100_000] {
+            let given = Given {
+                printed: &[],
+                printed_end,
+                at_most,
+                ..CHECK
+            };
+            compare(&rt, "a bad line", &given, &expected)?;
+        }
     }
     Ok(())
 }

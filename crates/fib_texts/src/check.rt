@@ -6,7 +6,6 @@ ghost use Rattle.printed_text.specs.Printed.{printed_as};
 ghost use Rattle.fib_addr.specs.Views.{addr_as, prefix_as};
 ghost use Rattle.fib_addr.specs.Text.{address_text, prefix_text};
 ghost use Rattle.printed_text.specs.Rows.{family_name, line};
-ghost use Rattle.printed_text.specs.Used.{printed_in};
 ghost use Rattle.fib_due.specs.Checks.{verdict_hop, no_fields, verdict_of, verdict_text};
 ghost use Rattle.fib_due.specs.Due.{Checked, Refuted, checked, reply_of, used_at, with_reply};
 ghost use Rattle.fib_due.specs.Ends.{ReadsName};
@@ -19,13 +18,14 @@ ghost use Rattle.fib_due.specs.Owned.{IsNo, StopsAt};
 ghost use Rattle.fib_texts.specs.Reads.{IsReply};
 ghost use Rattle.fib_due.specs.Views.{reply_as, wrong_as};
 
+use crate::read::{ReadText, read_text};
 use cert_check::{CheckError, No, check};
-use fib_due::{Outcome, Reply, Which, Wrong, octets_of};
-use fib_io::Inputs;
+use fib_due::{Outcome, Reply, Which, Wrong};
+use fib_io::{Inputs, ReadError};
 use fib_prefix::{Addr, Family, Hop, HopTable, MOST_TEXT, Prefix, addr_text, prefix_text};
 use fib_report::{family_field, hop_field, row_text};
 use itoa::Buffer;
-use printed_text::{Printed, PrintedError, read_printed};
+use printed_text::Printed;
 use std::alloc::{AllocError, Global};
 
 /// `no,twice,PREFIX`.
@@ -175,19 +175,28 @@ fn reply_to(alloc: Global, printed: &Printed) -> Result<Reply, AllocError>
     })
 }
 
-/// Reads a printed text and checks that its certificate proves its least table least; `BadRow` names the first line that is
-/// no row. It costs n log n in the text's length. The text is let go once it is read.
-pub fn check_text(alloc: Global, text: Vec<u8>) -> Result<Reply, PrintedError>
-    ensures reply { IsReply result (printed_in text.items) }
+/// The reply to a printed text that was read, or the outcome if it wasn't.
+fn reply_to_read(alloc: Global, read: Result<ReadText, ReadError>) -> Result<Reply, Outcome>
+    ensures reply { IsReply read result }
     ensures no { IfOk result (λ reply. IfSome reply.wrong IsNo) }
 {
-    let printed = read_printed(alloc, &text)?;
-    drop(text);
-    reply_to(alloc, &printed).map_err(|_| PrintedError::NoMemory)
+    match read {
+        Ok(Ok(printed)) => reply_to(alloc, &printed).map_err(|_| Outcome::NoMemory),
+        Ok(Err(bad)) => Err(Outcome::BadLine {
+            input: Which::Printed,
+            line: bad.line,
+            why: bad.why,
+        }),
+        Err(ReadError::Fault) => Err(Outcome::ReadFault),
+        Err(ReadError::TooLarge) => Err(Outcome::TooLarge {
+            input: Which::Printed,
+        }),
+        Err(ReadError::NoMemory) => Err(Outcome::NoMemory),
+    }
 }
 
-/// Takes a printed text, and gives the reply to it.
-#[tactic(auto, unfolding(fib_due::specs::Due::used_at))]
+/// Reads a printed text, in pieces, and gives the reply to it: whether its certificate proves its least table least. It costs n log n
+/// in the text's length.
 pub fn check_for<I: Inputs>(alloc: Global, inputs: &mut I, name: &str) -> Result<Reply, Outcome>
     ensures due { GivesDue reply_as result
         (with_reply (checked (used_at (I.content inputs.old) name.now))) }
@@ -199,14 +208,6 @@ pub fn check_for<I: Inputs>(alloc: Global, inputs: &mut I, name: &str) -> Result
     ensures reads { Makes (I.reads inputs.old) (I.reads inputs.new)
         (ReadsOf (I.content inputs.old) TextMayGoOn (check_inputs name.now) result) }
 {
-    let octets = octets_of(alloc, inputs, name, Which::Printed)?;
-    match check_text(alloc, octets) {
-        Ok(reply) => Ok(reply),
-        Err(PrintedError::BadRow(bad)) => Err(Outcome::BadLine {
-            input: Which::Printed,
-            line: bad.line,
-            why: bad.why,
-        }),
-        Err(PrintedError::NoMemory) => Err(Outcome::NoMemory),
-    }
+    let read = read_text(alloc, inputs, name);
+    reply_to_read(alloc, read)
 }

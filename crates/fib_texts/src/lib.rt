@@ -7,6 +7,7 @@
 mod check;
 mod claims;
 mod moves;
+mod read;
 mod same;
 mod save;
 
