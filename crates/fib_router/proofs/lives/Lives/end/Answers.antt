@@ -1,0 +1,27 @@
+use Rattle.std.proofs.Common.{◌≡◌, ◌<◌, sym, subst}
+use Rattle.table_model.specs.declared.family.Family.{Family}
+use Rattle.fib_router.specs.Lives.{IsPendingOf, live_of}
+use Rattle.fib_router.proofs.Readying.{ended_high, ended_low}
+use Rattle.fib_router.proofs.lives.Lives.end.Goals as goal
+
+pub end-requires-clause-token : goal.end-requires-clause-token
+end-requires-clause-token c = (subst (λ (f : Family). IsPendingOf f c.args.pending c.args.self.now) c.in-V4.is c.requires.token).0
+
+pub end-requires-in-V6-clause-token : goal.end-requires-in-V6-clause-token
+end-requires-in-V6-clause-token c = (subst (λ (f : Family). IsPendingOf f c.args.pending c.args.self.now) c.in-V6.is c.requires.token).0
+
+pub end-requires-clause-time : goal.end-requires-clause-time
+end-requires-clause-time c = subst (λ (f : Family). (live_of f c.args.self.now).selected.time < 18446744073709551615) c.in-V4.is c.requires.time
+
+pub end-requires-in-V6-clause-time : goal.end-requires-in-V6-clause-time
+end-requires-in-V6-clause-time c = subst (λ (f : Family). (live_of f c.args.self.now).selected.time < 18446744073709551615) c.in-V6.is c.requires.time
+
+pub returns-in-V4-clause-lives : goal.returns-in-V4-clause-lives
+returns-in-V4-clause-lives c =
+    let old = subst (λ (f : Family). IsPendingOf f c.args.pending c.args.self.now) c.in-V4.is c.requires.token in
+    ended_low c.args.self.now c.end.new.self c.end.result old.1 c.end.ensures.shape c.end.ensures.time c.end.ensures.quiet c.end.ensures.shows
+
+pub returns-in-V6-clause-lives : goal.returns-in-V6-clause-lives
+returns-in-V6-clause-lives c =
+    let old = subst (λ (f : Family). IsPendingOf f c.args.pending c.args.self.now) c.in-V6.is c.requires.token in
+    ended_high c.args.self.now c.end-in-V6.new.self c.end-in-V6.result old.1 c.end-in-V6.ensures.shape c.end-in-V6.ensures.time c.end-in-V6.ensures.quiet c.end-in-V6.ensures.shows

@@ -1,0 +1,46 @@
+use Rattle.std.proofs.Common.{ap, arith, sym, ◌∙◌}
+use Rattle.table_model.specs.Width.{width}
+use Rattle.fib_addr.specs.Views.{prefix_as}
+use Rattle.fib_engine.specs.Held.{engine_routes}
+use Rattle.fib_engine.specs.Staged.{routes_planned}
+use Rattle.fib_router.proofs.Through.{agree_outside}
+use Rattle.fib_router.proofs.Readying.{fits_now, hindered_by, region_is}
+use Rattle.fib_router.proofs.lives.ready.Goals as goal
+
+pub prepare-requires-clause-family : goal.prepare-requires-clause-family
+prepare-requires-clause-family c = sym c.requires.rest.family
+
+pub prepare-requires-clause-bits : goal.prepare-requires-clause-bits
+prepare-requires-clause-bits c = c.whole-region.ensures.bits ∙ ap width (c.tree.ensures.family ∙ sym c.requires.rest.family)
+
+pub prepare-requires-clause-time : goal.prepare-requires-clause-time
+prepare-requires-clause-time c = omega (arith, c.requires.rest.time, c.requires.few)
+
+pub returns-in-Ok-clause-shows : goal.returns-in-Ok-clause-shows
+returns-in-Ok-clause-shows c =
+    let l = c.args.lower.now in
+    let L = engine_routes l.held in
+    let M = routes_planned l in
+    let region = region_is c.args.prefix.now.family c.tree.result.now.family c.args.live.now.selected.family c.tree.result.now.routes M _ c.whole-region.ensures.answers c.tree.ensures.family c.tree.ensures.routes c.requires.rest.family in
+    c.in-Ok.ensures.shows L M c.requires.rest.shows region (agree_outside (prefix_as c.args.prefix.now) L M c.requires.within)
+
+pub hindrance-requires : goal.hindrance-requires
+hindrance-requires c =
+    let l = c.args.lower.now in
+    let L = engine_routes l.held in
+    let M = routes_planned l in
+    let region = region_is c.args.prefix.now.family c.tree.result.now.family c.args.live.now.selected.family c.tree.result.now.routes M _ c.whole-region.ensures.answers c.tree.ensures.family c.tree.ensures.routes c.requires.rest.family in
+    fits_now c.args.prefix.now.family l.held c.args.live.now L M c.args.oldest c.in-Err.why c.requires.rest c.requires.fits (c.in-Err.ensures.refused L M c.requires.rest.shows region (agree_outside (prefix_as c.args.prefix.now) L M c.requires.within))
+
+pub returns-in-Err-clause-hindered : goal.returns-in-Err-clause-hindered
+returns-in-Err-clause-hindered c =
+    let l = c.args.lower.now in
+    let L = engine_routes l.held in
+    let M = routes_planned l in
+    let region = region_is c.args.prefix.now.family c.tree.result.now.family c.args.live.now.selected.family c.tree.result.now.routes M _ c.whole-region.ensures.answers c.tree.ensures.family c.tree.ensures.routes c.requires.rest.family in
+    hindered_by c.args.oldest c.in-Err.why c.hindrance.result c.args.live.now L M c.hindrance.ensures (c.in-Err.ensures.refused L M c.requires.rest.shows region (agree_outside (prefix_as c.args.prefix.now) L M c.requires.within))
+
+pub returns-in-Err-clause-still : goal.returns-in-Err-clause-still
+returns-in-Err-clause-still c =
+    let L = engine_routes c.args.lower.now.held in
+    c.in-Err.ensures.still L L c.requires.rest.shows
