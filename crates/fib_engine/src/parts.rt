@@ -190,6 +190,31 @@ impl Parts {
         EventChanges::none(self.alloc)
     }
 
+    /// Plans the tables for an event of which it is known what it chooses, and makes it. It stands apart, so that an event that asks
+    /// no table doesn't clear the room of a plan.
+    ///
+    /// # Errors
+    ///
+    /// `TrieFull` as `Engine::apply`'s, or no memory; then all is as it was.
+    #[inline(never)]
+    fn make(&mut self, chosen: Chosen) -> Result<EventChanges, EngineError>
+        requires { IsChosen chosen self.old }
+        ensures sound { AreSound self.new }
+        ensures takes { OnOk result (TakesElem (elem_as chosen.elem) (held_in self.old)
+            (held_in self.new)) }
+        ensures changes { IfOk result (λ e. map change_as e.changes.items
+            ≡ changes_of (elem_as chosen.elem) (held_in self.old)) }
+        ensures first { IfOk result (λ e. e.first
+            ≡ length (first_of (elem_as chosen.elem) (held_in self.old))) }
+        ensures hops { ¬ (IsErrOf result EngineError.HopsFull) }
+        ensures short { (t : TrieFull) → IsErrOf result (EngineError.TrieFull t)
+            → IsShortFor (held_in self.old) (routes_after (elem_as chosen.elem) (held_in self.old)) t }
+        ensures err { OnErr result (held_in self.new ≡ held_in self.old) }
+    {
+        let waiting = self.plan_chosen(chosen)?;
+        Ok(self.commit(waiting))
+    }
+
     /// Makes an elementary event after the load, and gives its changes. One that changes no chosen hop asks no table, unless a
     /// snapshot follows it.
     ///
@@ -216,8 +241,8 @@ impl Parts {
         if self.is_passed(&chosen) {
             return Ok(self.pass(chosen));
         }
-        let waiting = self.plan_chosen(chosen)?;
-        Ok(self.commit(waiting))
+        let changes = self.make(chosen)?;
+        Ok(changes)
     }
 
     /// Makes a planned event, and gives its changes. It takes no memory.

@@ -1,5 +1,4 @@
 use Rattle.std.proofs.Common.{ap, length, subst, ◌∙◌}
-use Rattle.route_model.specs.Events.{Elem}
 use Rattle.fib_prefix.specs.Views.{elem_as}
 use Rattle.fib_prefix.specs.declared.event.Elem as code_elem
 use Rattle.fib_engine.specs.Held.{EngineState}
@@ -21,17 +20,12 @@ returns-then-is_passed-clause-first c =
 
 pub returns-clause-takes : goal.returns-clause-takes
 returns-clause-takes c =
-    let new = held_in c.commit.new.self in
-    let same = ap elem_as (c.in_ok-waiting.ensures.elem ∙ c.in_ok-chosen.ensures.elem) in
-    subst (λ (h : EngineState). TakesElem (elem_as c.args.elem.now) h new) (c.plan_chosen.ensures.seen ∙ c.choose.ensures.seen) (subst (λ (x : Elem). TakesElem x (held_in c.plan_chosen.new.self) new) same c.commit.ensures.takes)
+    let new = held_in c.make.new.self in
+    subst (λ (h : EngineState). TakesElem (elem_as c.args.elem.now) h new) c.choose.ensures.seen (subst (λ (x : code_elem.Elem). TakesElem (elem_as x) (held_in c.choose.new.self) new) c.in_ok-chosen.ensures.elem c.in_ok-changes.ensures.takes)
 
 pub returns-clause-changes : goal.returns-clause-changes
-returns-clause-changes c =
-    let same = ap elem_as (c.in_ok-waiting.ensures.elem ∙ c.in_ok-chosen.ensures.elem) in
-    c.commit.ensures.changes ∙ (ap (λ (x : Elem). changes_of x (held_in c.plan_chosen.new.self)) same ∙ ap (changes_of (elem_as c.args.elem.now)) (c.plan_chosen.ensures.seen ∙ c.choose.ensures.seen))
+returns-clause-changes c = c.in_ok-changes.ensures.changes ∙ (ap (λ (x : code_elem.Elem). changes_of (elem_as x) (held_in c.choose.new.self)) c.in_ok-chosen.ensures.elem ∙ ap (changes_of (elem_as c.args.elem.now)) c.choose.ensures.seen)
 
 pub returns-clause-first : goal.returns-clause-first
 returns-clause-first c =
-    let same = ap elem_as (c.in_ok-waiting.ensures.elem ∙ c.in_ok-chosen.ensures.elem) in
-    c.commit.ensures.first
-    ∙ (ap (λ (x : Elem). length (first_of x (held_in c.plan_chosen.new.self))) same ∙ ap (λ (h : EngineState). length (first_of (elem_as c.args.elem.now) h)) (c.plan_chosen.ensures.seen ∙ c.choose.ensures.seen))
+    c.in_ok-changes.ensures.first ∙ (ap (λ (x : code_elem.Elem). length (first_of (elem_as x) (held_in c.choose.new.self))) c.in_ok-chosen.ensures.elem ∙ ap (λ (h : EngineState). length (first_of (elem_as c.args.elem.now) h)) c.choose.ensures.seen)
