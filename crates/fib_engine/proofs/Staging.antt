@@ -1,5 +1,5 @@
 -- An event that is planned, and then made or undone.
-use Rattle.std.proofs.Common.{◌≡◌, ℕ, ◌+◌, List, [], ◌∷◌, ◌++◌, Bool, true, false, cond, Option, Some, None, length, refl, sym, ap, subst, ◌∙◌}
+use Rattle.std.proofs.Common.{◌≡◌, ℕ, ◌+◌, List, [], ◌∷◌, ◌++◌, Bool, true, false, cond, Option, Some, None, length, map, refl, sym, ap, subst, ◌∙◌}
 use Rattle.std.specs.Prelude.{option_map}
 use Rattle.table_model.specs.Address.{Address, Prefix, same_family}
 use Rattle.table_model.specs.declared.family.Family.{Family}
@@ -17,20 +17,28 @@ use Rattle.fib_addr.specs.Views.{addr_as, prefix_as}
 use Rattle.fib_addr.specs.declared.entry.Hop as code_hop
 use Rattle.fib_addr.specs.declared.prefix.Prefix as code_prefix
 use Rattle.fib_delta.proofs.Held.{is_prefix}
+use Rattle.fib_prefix.specs.Views.{elem_as}
 use Rattle.orig_tree.specs.Views.{InPlace}
 use Rattle.route_choice.specs.Held.{IsChoice, pick_elem, pick_choice}
 use Rattle.route_choice.specs.declared.choice.Choice.{Choice}
+use Rattle.fib_delta.specs.Views.{change_as}
+use Rattle.fib_delta.specs.declared.change.Change as code_change
+use Rattle.table_model.specs.Changes.{after_changes}
 use Rattle.smalta_keep.specs.Views.{moved_of, with_planned}
+use Rattle.smalta_keep.specs.declared.repair.Repair.{Repair}
+use Rattle.smalta_keep.proofs.Planned.{nothing_planned, nothing_told}
 use Rattle.route_tries.specs.Parts.{AreAlikeOutside}
-use Rattle.route_tries.specs.Sizes.{first_short, needs_of, shortage, sizes_as}
+use Rattle.route_tries.specs.Sizes.{first_short, needs_of, needs_of_both, shortage, sizes_as}
 use Rattle.fib_engine.specs.Tables.{Both, Route, KeepRoutes, MadeBy, both_firsts, gathered, labels_of, needs_put, only, route_in, table_of}
 use Rattle.fib_engine.specs.Numbers.{HasNumber, IsNewNumber, IsRouteOf}
 use Rattle.fib_engine.specs.Held.{AreKeptNeeds, EngineState, IsSound, engine_routes, if_loaded}
 use Rattle.fib_engine.specs.Stands.{TakesElem, changes_of, first_of, routes_after}
-use Rattle.fib_engine.specs.Parts.{AreSound, IsWaiting, held_in, waiting_elem}
+use Rattle.fib_engine.specs.Parts.{AreSound, IsChosen, IsWaiting, held_in, waiting_elem}
 use Rattle.fib_engine.specs.Staged.{IsTurn, Waits, planned_route, routes_by}
+use Rattle.fib_engine.specs.declared.parts.Chosen as code_chosen
 use Rattle.fib_engine.specs.declared.parts.Parts as code_parts
 use Rattle.fib_engine.specs.declared.parts.Waiting as code_waiting
+use Rattle.fib_engine.specs.declared.tables.EventChanges.{EventChanges}
 use Rattle.fib_engine.specs.declared.staged.Planned as code_planned
 use Rattle.fib_engine.proofs.Holding.{of_only, only_placed}
 use Rattle.fib_engine.proofs.Needing.{needs_known}
@@ -185,6 +193,90 @@ module _ (w : code_waiting.Waiting) (p : code_parts.Parts) (i : IsWaiting w p) w
 
     pub made_first : length (both_firsts (moved_of w.fitting.plan.v4) (moved_of w.fitting.plan.v6)) ≡ length (first_of elem (held_in p))
     made_first = ap length made.first ∙ ap (λ (t : Entries). length (first_changes p.limits.fewest H' C t elem)) (sym same_table)
+
+-- ---- an event of which it is known what it chooses
+module _ (c : code_chosen.Chosen) (p : code_parts.Parts) (i : IsChosen c p) where
+  abbrev AfterIt : Entries
+  AfterIt = entries_of (hops_after p.hops.list (elem_as c.elem ∷ [])) (after_elem p.candidates.candidates (elem_as c.elem))
+
+  pub chosen_needs : needs_of_both p.limits.sizes.direct p.tables.v4.routes p.tables.v6.routes ≡ needs_of p.limits.sizes.direct (entries_of p.hops.list p.candidates.candidates)
+  chosen_needs = needs_known p.limits.sizes.direct p.tables.v4.routes p.tables.v6.routes (entries_of p.hops.list p.candidates.candidates) i.sound.v4.routes i.sound.v6.routes
+
+  pub chosen_put : needs_put p.limits.sizes.direct c.route p.tables ≡ needs_of p.limits.sizes.direct AfterIt
+  chosen_put =
+      needs_known p.limits.sizes.direct (with_planned (route_in V4 c.route) p.tables.v4.routes) (with_planned (route_in V6 c.route) p.tables.v6.routes) AfterIt (ap (with_planned (route_in V4 c.route)) i.sound.v4.routes ∙ turn V4)
+      (ap (with_planned (route_in V6 c.route)) i.sound.v6.routes ∙ turn V6)
+    where
+      turn : (f : Family) → with_planned (route_in f c.route) (only f (entries_of p.hops.list p.candidates.candidates)) ≡ only f AfterIt
+      turn f = routes_turn p.candidates.candidates p.hops.list (elem_as c.elem) i.sound.elems i.sound.proper i.sound.candidates i.sound.hops (is_elem c.elem) (pick_choice c.pick) (subst (λ (y : Elem). IsChoice p.candidates.candidates y (pick_choice c.pick)) i.elem i.pick.choice) c.route i.route f
+
+  -- it changes no chosen hop, and no snapshot follows it: it is as one whose plan changes nothing
+  module _ (e : EventChanges) (none : c.route ≡ None) (due : is_due p.limits.every (p.events + 1) ≡ false) (empty : e.changes.items ≡ []) (zero : e.first ≡ 0) where
+    abbrev nothing : Repair
+    nothing = record { former = None; cleared = false; reach = None; due = false; fewest = p.limits.fewest; moved = record { repair = e.changes; snapshot = e.changes } }
+
+    abbrev passing : code_waiting.Waiting
+    passing = record { elem = c.elem; own = c.own; route = None; pick = c.pick; fitting = record { plan = record { v4 = nothing; v6 = nothing; changes = e }; needs = p.needs } }
+
+    waits : IsWaiting passing p
+    waits = record {
+      loaded = i.loaded;
+      before = p.tables;
+      sound = i.sound;
+      kept = i.kept;
+      tables = record { v4_family = refl; v6_family = refl; v4 = refl; v6 = refl };
+      put = record { v4 = refl; v6 = refl };
+      told = record {
+        v4_tells = nothing_told p.tables.v4 p.limits.fewest None (is_due p.limits.every (p.events + 1)) nothing refl due empty empty;
+        v6_tells = nothing_told p.tables.v6 p.limits.fewest None (is_due p.limits.every (p.events + 1)) nothing refl due empty empty;
+      };
+      planned = record {
+        v4 = nothing_planned p.tables.v4 nothing refl refl refl empty empty;
+        v6 = nothing_planned p.tables.v6 nothing refl refl refl empty empty;
+      };
+      undone = record { v4 = refl; v6 = refl };
+      changes = subst (λ (cs : List code_change.Change). map change_as cs ≡ (map change_as cs ++ map change_as cs) ++ (map change_as cs ++ map change_as cs)) (sym empty) refl;
+      first = zero ∙ subst (λ (cs : List code_change.Change). 0 ≡ length (map change_as cs ++ map change_as cs)) (sym empty) refl;
+      pick = i.pick;
+      elem = i.elem;
+      route = subst (λ (r : Route). IsRouteOf (hops_after p.hops.list (elem_as c.elem ∷ [])) (pick_choice c.pick) r) none i.route;
+      own = i.own;
+      few = i.few;
+      room = i.room;
+      counted = i.counted;
+      needs = i.kept.needs ∙ sym chosen_needs;
+      fits = ap (first_short (sizes_as p.limits.sizes)) chosen_needs ∙ i.kept.fit;
+    }
+
+    keeps : KeepRoutes p.tables p.tables
+    keeps = record { v4_family = refl; v6_family = refl; v4 = refl; v6 = refl }
+
+    stays_made : (T : Entries) → after_changes (map change_as e.changes.items ++ map change_as e.changes.items) T ≡ Some T
+    stays_made T = subst (λ (cs : List code_change.Change). after_changes (map change_as cs ++ map change_as cs) T ≡ Some T) (sym empty) refl
+
+    -- once it is made, with these candidates and hops
+    module _ (D : Candidates) (G : List Address) (dc : D ≡ after_elem p.candidates.candidates (pick_elem c.pick)) (gh : G ≡ hops_after p.hops.list (elem_as c.elem ∷ [])) where
+      pub passed_sound : IsSound D G p.is_loaded p.tables × AreKeptNeeds (sizes_as p.limits.sizes) (if_loaded p.is_loaded (entries_of G D)) p.needs
+      passed_sound = made_sound passing p waits D G p.tables dc gh keeps (stays_made p.tables.v4.entries) (stays_made p.tables.v6.entries)
+
+      pub passed_takes : TakesElem (elem_as c.elem) (held_in p) (record {
+        every = p.limits.every;
+        fewest = p.limits.fewest;
+        sizes = sizes_as p.limits.sizes;
+        candidates = D;
+        hops = G;
+        table = table_of p.tables;
+        loaded = p.is_loaded;
+        events = p.events + 1;
+        moves = None;
+      })
+      passed_takes = made_takes passing p waits D G p.tables dc gh keeps (stays_made p.tables.v4.entries) (stays_made p.tables.v6.entries) e.first None refl refl
+
+      pub passed_changes : map change_as e.changes.items ≡ changes_of (elem_as c.elem) (held_in p)
+      passed_changes = waits.changes ∙ made_changes passing p waits D G p.tables dc gh keeps (stays_made p.tables.v4.entries) (stays_made p.tables.v6.entries)
+
+      pub passed_first : e.first ≡ length (first_of (elem_as c.elem) (held_in p))
+      passed_first = waits.first ∙ made_first passing p waits D G p.tables dc gh keeps (stays_made p.tables.v4.entries) (stays_made p.tables.v6.entries)
 
 -- ---- the trees
 pub tree_routes : (f : Family) (o : Option code_waiting.Waiting) (p : code_parts.Parts) → Waits o p → (labels_of f p.tables).routes ≡ only f (routes_by (option_map waiting_elem o) (held_in p))

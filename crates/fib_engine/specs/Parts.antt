@@ -1,5 +1,5 @@
 -- What is seen of an engine's parts, and what is known of them while an elementary event is planned.
-use Rattle.std.specs.Prelude.{◌≡◌, ◌≤◌, ◌<◌, ℕ, ◌+◌, ◌^◌, [], ◌∷◌, length, map, true, None}
+use Rattle.std.specs.Prelude.{◌≡◌, ◌≤◌, ◌<◌, ◌+◌, ◌^◌, [], ◌∷◌, length, map, true, None}
 use Rattle.route_model.specs.Events.{Elem}
 use Rattle.kept_model.specs.Feed.{entries_of, hops_after}
 use Rattle.kept_model.specs.Kept.{is_due}
@@ -14,6 +14,7 @@ use Rattle.fib_engine.specs.Numbers.{IsOwnNumber, IsRouteOf}
 use Rattle.fib_engine.specs.Held.{AreKeptNeeds, EngineState, IsSound, if_loaded}
 use Rattle.fib_engine.specs.declared.parts.Parts as code_parts
 use Rattle.fib_engine.specs.declared.parts.Waiting as code_waiting
+use Rattle.fib_engine.specs.declared.parts.Chosen as code_chosen
 
 -- what is seen of them
 abbrev pub held_in : code_parts.Parts → EngineState
@@ -36,6 +37,19 @@ AreSound p = IsSound p.candidates.candidates p.hops.list p.is_loaded p.tables ×
 -- the elementary event that is planned
 abbrev pub waiting_elem : code_waiting.Waiting → Elem
 waiting_elem w = elem_as w.elem
+
+-- What an event chooses is known, and there is room for it in the candidates and the hops: the load ended, and all is sound.
+pub record IsChosen (c : code_chosen.Chosen) (p : code_parts.Parts) : Type 0 where
+  pub loaded : p.is_loaded ≡ true
+  pub sound : IsSound p.candidates.candidates p.hops.list true p.tables
+  pub kept : AreKeptNeeds (sizes_as p.limits.sizes) (entries_of p.hops.list p.candidates.candidates) p.needs
+  pub pick : IsPlanned p.candidates c.pick
+  pub elem : pick_elem c.pick ≡ elem_as c.elem
+  pub route : IsRouteOf (hops_after p.hops.list (elem_as c.elem ∷ [])) (pick_choice c.pick) c.route
+  pub own : IsOwnNumber p.hops.list c.elem c.own
+  pub few : length (hops_after p.hops.list (elem_as c.elem ∷ [])) ≤ most_hops
+  pub room : 1 ≤ p.hops.spare
+  pub counted : p.events + 1 < 2 ^ 64
 
 -- An event is planned: the load ended, and what the tables were before is sound; with all that making it or undoing it needs.
 pub record IsWaiting (w : code_waiting.Waiting) (p : code_parts.Parts) : Type 0 where

@@ -199,8 +199,8 @@ impl Engine {
             → IsShortFor self.old (routes_after (elem_as elem.now) self.old) t }
         ensures err { OnErr result (self.new ≡ self.old) }
     {
-        let waiting = self.parts.plan(elem)?;
-        Ok(self.parts.commit(waiting))
+        let changes = self.parts.apply(elem)?;
+        Ok(changes)
     }
 
     /// How many changes the last event after the load needed before its snapshot; `None` exactly where it changed no chosen hop, or

@@ -10,7 +10,8 @@
 //! load's end on, so that an event after which an arena would be too small is refused at once.
 //!
 //! Who stores an event's changes word by word elsewhere takes a `Staged` engine: an event is planned there, and then made or undone.
-//! `Engine::apply` goes through the very same plan.
+//! `Engine::apply` goes through the very same plan, but for an event that changes no chosen hop and that no snapshot follows: it asks
+//! no table.
 //!
 //! Where no more events come an engine settles: the candidates are let go, and what is left is told from the trees. Where only
 //! what events do to the routes is asked for, and no table, an engine leaves its `Turns`.

@@ -1,12 +1,12 @@
 //! What an engine is made of, and how an elementary event is planned in it, and then made or undone.
 
-ghost use Rattle.std.specs.Prelude.{◌≡◌, ◌<◌, ◌+◌, ◌^◌, ◌↔◌, length, map, option_map, true, IfOk, OnErr, IsErrOf};
+ghost use Rattle.std.specs.Prelude.{◌≡◌, ◌<◌, ◌+◌, ◌^◌, ◌↔◌, length, map, option_map, true, false, None, IfOk, OnOk, OnErr, IsErrOf};
 ghost use Rattle.kept_model.specs.Kept.{is_due as due_at};
 ghost use Rattle.fib_prefix.specs.Views.{elem_as};
 ghost use Rattle.fib_delta.specs.Views.{change_as};
 ghost use Rattle.route_tries.specs.declared.sizes.TrieFull.{TrieFull};
 ghost use Rattle.fib_engine.specs.Stands.{IsShortFor, IsTooMany, TakesElem, changes_of, first_of, routes_after};
-ghost use Rattle.fib_engine.specs.Parts.{AreSound, IsWaiting, held_in, waiting_elem};
+ghost use Rattle.fib_engine.specs.Parts.{AreSound, IsChosen, IsWaiting, held_in, waiting_elem};
 
 use crate::engine::Limits;
 use crate::error::EngineError;
@@ -33,6 +33,17 @@ pub(crate) struct Parts {
     pub(crate) moves: Option<u64>,
     pub(crate) limits: Limits,
     pub(crate) is_loaded: bool,
+}
+
+/// What an event chooses, before the tables are asked.
+#[derive(Drop)]
+pub(crate) struct Chosen {
+    pub(crate) elem: Elem,
+    // the number that its hop has or gets, if it puts a route
+    pub(crate) own: Option<Hop>,
+    // the route that changes, if it changes a chosen hop
+    pub(crate) route: Option<(Prefix, Hop)>,
+    pub(crate) pick: Pick,
 }
 
 /// A planned event with all that it takes.
@@ -65,6 +76,70 @@ fn moves_made(route: Option<(Prefix, Hop)>, changes: &EventChanges) -> Option<u6
 }
 
 impl Parts {
+    /// Tells what an elementary event after the load chooses, and takes the memory that this takes. Nothing is seen of it.
+    ///
+    /// # Errors
+    ///
+    /// `HopsFull` exactly where the event brings one different hop too many, or no memory; then all is as it was.
+    fn choose(&mut self, elem: &Elem) -> Result<Chosen, EngineError>
+        requires sound { AreSound self.old }
+        requires loaded { self.old.is_loaded ≡ true }
+        requires few { self.old.events + 1 < 2 ^ 64 }
+        ensures seen { held_in self.new ≡ held_in self.old }
+        ensures elem { IfOk result (λ c. c.elem ≡ elem.now) }
+        ensures chosen { IfOk result (λ c. IsChosen c self.new) }
+        ensures full { IsErrOf result EngineError.HopsFull
+            ↔ IsTooMany (elem_as elem.now) (held_in self.old) }
+        ensures fits { (t : TrieFull) → ¬ (IsErrOf result (EngineError.TrieFull t)) }
+        ensures err { OnErr result (AreSound self.new) }
+    {
+        let own = number_put(&self.hops, elem)?;
+        self.hops.room()?;
+        let pick = self.candidates.plan(elem)?;
+        let route = changed_route(&self.hops, own, pick.choice());
+        Ok(Chosen {
+            elem: *elem,
+            own,
+            route,
+            pick,
+        })
+    }
+
+    /// Plans the tables for an event of which it is known what it chooses.
+    ///
+    /// # Errors
+    ///
+    /// `TrieFull` as `Engine::apply`'s, or no memory; then all is as it was.
+    fn plan_chosen(&mut self, chosen: Chosen) -> Result<Waiting, EngineError>
+        requires { IsChosen chosen self.old }
+        ensures seen { held_in self.new ≡ held_in self.old }
+        ensures elem { IfOk result (λ w. w.elem ≡ chosen.elem) }
+        ensures waiting { IfOk result (λ w. IsWaiting w self.new) }
+        ensures hops { ¬ (IsErrOf result EngineError.HopsFull) }
+        ensures short { (t : TrieFull) → IsErrOf result (EngineError.TrieFull t)
+            → IsShortFor (held_in self.old) (routes_after (elem_as chosen.elem) (held_in self.old)) t }
+        ensures err { OnErr result (AreSound self.new) }
+    {
+        let limits = &self.limits;
+        let due = is_due(limits.every, self.events + 1);
+        let fitting = plan_fitting(
+            &mut self.tables,
+            self.alloc,
+            chosen.route,
+            due,
+            limits.fewest,
+            self.needs,
+            &limits.sizes,
+        )?;
+        Ok(Waiting {
+            elem: chosen.elem,
+            own: chosen.own,
+            route: chosen.route,
+            pick: chosen.pick,
+            fitting,
+        })
+    }
+
     /// Plans an elementary event after the load: all memory that it takes is taken. Nothing is seen of it but in the trees, which
     /// have the routes after it. The plan is to be committed or undone before anything else changes.
     ///
@@ -84,28 +159,90 @@ impl Parts {
             → IsShortFor (held_in self.old) (routes_after (elem_as elem.now) (held_in self.old)) t }
         ensures err { OnErr result (AreSound self.new) }
     {
-        let own = number_put(&self.hops, elem)?;
-        self.hops.room()?;
-        let pick = self.candidates.plan(elem)?;
-        let route = changed_route(&self.hops, own, pick.choice());
-        let limits = &self.limits;
-        let due = is_due(limits.every, self.events + 1);
-        let fitting = plan_fitting(
-            &mut self.tables,
-            self.alloc,
-            route,
-            due,
-            limits.fewest,
-            self.needs,
-            &limits.sizes,
-        )?;
-        Ok(Waiting {
-            elem: *elem,
-            own,
-            route,
-            pick,
-            fitting,
-        })
+        let chosen = self.choose(elem)?;
+        self.plan_chosen(chosen)
+    }
+
+    /// Whether an event changes no chosen hop, and no snapshot follows it: then no table changes.
+    fn is_passed(&self, chosen: &Chosen) -> bool
+        requires { self.now.events + 1 < 2 ^ 64 }
+        ensures route { result ≡ true → chosen.now.route ≡ None }
+        ensures due { result ≡ true → due_at self.now.limits.every (self.now.events + 1) ≡ false }
+    {
+        chosen.route.is_none() && !is_due(self.limits.every, self.events + 1)
+    }
+
+    /// Makes an event that changes no chosen hop, where no snapshot follows it: no table is touched. It takes no memory.
+    fn pass(&mut self, chosen: Chosen) -> EventChanges
+        requires chosen { IsChosen chosen self.old }
+        requires route { chosen.route ≡ None }
+        requires due { due_at self.old.limits.every (self.old.events + 1) ≡ false }
+        ensures sound { AreSound self.new }
+        ensures takes { TakesElem (elem_as chosen.elem) (held_in self.old) (held_in self.new) }
+        ensures changes { map change_as result.changes.items
+            ≡ changes_of (elem_as chosen.elem) (held_in self.old) }
+        ensures first { result.first ≡ length (first_of (elem_as chosen.elem) (held_in self.old)) }
+    {
+        self.candidates.commit(chosen.pick);
+        number_hop(&mut self.hops, chosen.own, &chosen.elem);
+        self.events += 1;
+        self.moves = None;
+        EventChanges::none(self.alloc)
+    }
+
+    /// Plans the tables for an event of which it is known what it chooses, and makes it. It stands apart, so that an event that asks
+    /// no table doesn't clear the room of a plan.
+    ///
+    /// # Errors
+    ///
+    /// `TrieFull` as `Engine::apply`'s, or no memory; then all is as it was.
+    #[inline(never)]
+    fn make(&mut self, chosen: Chosen) -> Result<EventChanges, EngineError>
+        requires { IsChosen chosen self.old }
+        ensures sound { AreSound self.new }
+        ensures takes { OnOk result (TakesElem (elem_as chosen.elem) (held_in self.old)
+            (held_in self.new)) }
+        ensures changes { IfOk result (λ e. map change_as e.changes.items
+            ≡ changes_of (elem_as chosen.elem) (held_in self.old)) }
+        ensures first { IfOk result (λ e. e.first
+            ≡ length (first_of (elem_as chosen.elem) (held_in self.old))) }
+        ensures hops { ¬ (IsErrOf result EngineError.HopsFull) }
+        ensures short { (t : TrieFull) → IsErrOf result (EngineError.TrieFull t)
+            → IsShortFor (held_in self.old) (routes_after (elem_as chosen.elem) (held_in self.old)) t }
+        ensures err { OnErr result (held_in self.new ≡ held_in self.old) }
+    {
+        let waiting = self.plan_chosen(chosen)?;
+        Ok(self.commit(waiting))
+    }
+
+    /// Makes an elementary event after the load, and gives its changes. One that changes no chosen hop asks no table, unless a
+    /// snapshot follows it.
+    ///
+    /// # Errors
+    ///
+    /// As `Engine::apply`'s; then all is as it was.
+    pub(crate) fn apply(&mut self, elem: &Elem) -> Result<EventChanges, EngineError>
+        requires sound { AreSound self.old }
+        requires loaded { self.old.is_loaded ≡ true }
+        requires few { self.old.events + 1 < 2 ^ 64 }
+        ensures sound { AreSound self.new }
+        ensures takes { OnOk result (TakesElem (elem_as elem.now) (held_in self.old) (held_in self.new)) }
+        ensures changes { IfOk result (λ e. map change_as e.changes.items
+            ≡ changes_of (elem_as elem.now) (held_in self.old)) }
+        ensures first { IfOk result (λ e. e.first
+            ≡ length (first_of (elem_as elem.now) (held_in self.old))) }
+        ensures full { IsErrOf result EngineError.HopsFull
+            ↔ IsTooMany (elem_as elem.now) (held_in self.old) }
+        ensures short { (t : TrieFull) → IsErrOf result (EngineError.TrieFull t)
+            → IsShortFor (held_in self.old) (routes_after (elem_as elem.now) (held_in self.old)) t }
+        ensures err { OnErr result (held_in self.new ≡ held_in self.old) }
+    {
+        let chosen = self.choose(elem)?;
+        if self.is_passed(&chosen) {
+            return Ok(self.pass(chosen));
+        }
+        let changes = self.make(chosen)?;
+        Ok(changes)
     }
 
     /// Makes a planned event, and gives its changes. It takes no memory.

@@ -47,6 +47,21 @@ pub struct EventChanges {
     pub first: usize,
 }
 
+impl EventChanges {
+    ghost use Rattle.std.specs.Prelude.{◌≡◌, []};
+
+    /// No changes.
+    pub(crate) fn none(alloc: Global) -> EventChanges
+        ensures changes { result.changes.items ≡ [] }
+        ensures first { result.first ≡ 0 }
+    {
+        EventChanges {
+            changes: Vec::new(alloc),
+            first: 0,
+        }
+    }
+}
+
 /// What is planned of both tables, and all changes that it will make.
 #[derive(Drop)]
 pub struct Plan {

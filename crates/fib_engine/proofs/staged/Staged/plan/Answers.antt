@@ -1,5 +1,4 @@
-use Rattle.std.proofs.Common.{◌≡◌, None, ap, subst, sym, ◌∙◌}
-use Rattle.table_model.specs.Entries.{Entries}
+use Rattle.std.proofs.Common.{◌≡◌, None, ap, subst, ◌∙◌}
 use Rattle.route_model.specs.Events.{Elem}
 use Rattle.kept_model.specs.Kept.{changed_at}
 use Rattle.fib_prefix.specs.Views.{elem_as}
@@ -8,7 +7,7 @@ use Rattle.route_tries.specs.Parts.{AreAlikeOutside}
 use Rattle.route_tries.specs.Sizes.{shortage}
 use Rattle.fib_engine.specs.Held.{EngineState, engine_routes}
 use Rattle.fib_engine.specs.Numbers.{brought_by}
-use Rattle.fib_engine.specs.Parts.{AreSound, held_in}
+use Rattle.fib_engine.specs.Parts.{held_in}
 use Rattle.fib_engine.specs.Staged.{Staging}
 use Rattle.fib_engine.specs.Stands.{routes_after}
 use Rattle.fib_engine.specs.Tables.{only, route_in}
