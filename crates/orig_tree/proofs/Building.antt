@@ -1,19 +1,20 @@
 -- Nodes that are built in one walk over routes that stand in order.
-use Rattle.std.proofs.Common.{◌≡◌, ◌≢◌, ℕ, zero, suc, ◌-◌, ◌<◌, ◌≤◌, List, [], ◌∷◌, ◌++◌, length, Bool, true, false, refl, sym, ap, ◌∙◌, subst, arith, Option, Some, None, slice_set, append_assoc, map}
+use Rattle.std.proofs.Common.{◌≡◌, ◌≢◌, ℕ, zero, suc, ◌-◌, ◌<◌, ◌≤◌, List, [], ◌∷◌, ◌++◌, length, Bool, true, false, refl, sym, ap, ◌∙◌, subst, arith, Option, Some, None, slice_set, append_assoc}
 use Rattle.std.specs.Option.{unwrap_or}
 use Rattle.std.proofs.lemmas.List.{get_or-set_other, length-set}
-use Rattle.table_model.specs.Address.{Prefix}
+use Rattle.table_model.specs.Address.{IsPrefix, Prefix}
 use Rattle.table_model.specs.Halves.{half_at}
 use Rattle.table_model.specs.Width.{width}
 use Rattle.table_model.specs.declared.family.Family.{Family}
 use Rattle.table_model.specs.Table.{Table, lpm, inherit, here}
+use Rattle.std.specs.List.{AllByRecursion}
+use Rattle.std.specs.Map.{keys_of}
 use Rattle.table_model.specs.Entries.{Entries, of_table}
 use Rattle.table_model.proofs.Cut.{lpm_nil}
 use Rattle.table_model.specs.Regions.{join, lift}
 use Rattle.table_model.specs.Sets.{side}
-use Rattle.fib_addr.specs.Views.{prefix_as, entry_as}
+use Rattle.fib_addr.specs.Views.{prefix_as}
 use Rattle.fib_addr.specs.declared.prefix.Prefix as code
-use Rattle.fib_addr.specs.declared.entry.Entry as code_entry
 use Rattle.orig_tree.specs.Walk.{Walks}
 use Rattle.orig_tree.specs.Cover.{IsCover, covered}
 use Rattle.orig_tree.specs.Packed.{bare_slot, cover_in}
@@ -385,17 +386,17 @@ module _ (f : Family) (p : code.Prefix) (free free' : ℕ) (S S' : ℕ → Best)
         best_alike (suc e) new S' (answers_of T 0) (λ a. lpm (walks_at (suc e) new 0).routes a 0) 0 (λ a u. ap (λ R. lpm R a 0) (sym b.routes)) b.best,
       )
 
-  pub built_whole : (old new : List Node) (es rs : List code_entry.Entry) → old ≡ blank_cell ∷ [] → IsArena f old free → Builds 0 (width p.family - p.len) (prefix_as p) 0 old new free free' S S' (map entry_as es) (map entry_as rs) →
-      Lays f Route old new free' S S' (map entry_as es) (map entry_as rs) × KeepsBest f new S'
-  built_whole old new es rs bare a y =
+  pub built_whole : (old new : List Node) (E R : Entries) → AllByRecursion IsPrefix (keys_of E) → old ≡ blank_cell ∷ [] → IsArena f old free → Builds 0 (width p.family - p.len) (prefix_as p) 0 old new free free' S S' E R →
+      Lays f Route old new free' S S' E R × KeepsBest f new S'
+  built_whole old new E R prefixes bare a y =
       let levels : width p.family - p.len ≤ width f = omega (arith, ap (λ (v : Prefix). width v.family) is) in
       let b = y.built (width f) a.name a.spares [] levels (own_place (width f) old a.name 0 [] a.tree) inside a.held in
-      let w : Merges Route 0 (width p.family - p.len) (prefix_as p) old new free free' S S' 0 (map entry_as es) (map entry_as rs) = record {
+      let w : Merges Route 0 (width p.family - p.len) (prefix_as p) old new free free' S S' 0 E R = record {
         taken = y.taken;
         front = y.front;
         merged = λ d name m r l t held. by_depth d name m r l t held;
       } in (
-        lays_front f p Route old new free free' S S' es rs is a (in_place_nil f (whole f old).routes (no_routes bare)) w,
+        lays_front f p Route old new free free' S S' E R prefixes is a (in_place_nil f (whole f old).routes (no_routes bare)) w,
         (rooted (width f) y.taken old new a.name [] bare (own_place (width f) old a.name 0 [] a.tree) b).1,
       )
     where

@@ -56,6 +56,13 @@ settled_some cells depth hop j o S S' e f name p =
 own_first : (f : Family) (e : Prefix × ℕ) (E : Entries) (b : Bool) → same_family f e.0.family ≡ b → own_of f (e ∷ E) ≡ cond b (e ∷ own_of f E) (own_of f E)
 own_first f e E b h = ap (λ (t : Bool). cond t (e ∷ own_of f E) (own_of f E)) h
 
+-- a first entry of another family is passed
+pub passed_other : (f : Family) (e : Prefix × ℕ) (L E : Entries) → L ≡ e ∷ E → same_family f e.0.family ≡ false → own_of f E ≡ own_of f L
+passed_other f e L E is other = sym (ap (own_of f) is ∙ own_first f e E false other)
+
+pub passed_prefixes : (e : Prefix × ℕ) (L E : Entries) → L ≡ e ∷ E → AllByRecursion IsPrefix (keys_of L) → AllByRecursion IsPrefix (keys_of E)
+passed_prefixes e L E is a = (subst (λ (F : Entries). AllByRecursion IsPrefix (keys_of F)) is a).1
+
 own_all : (f : Family) (T : Table) → own_of f (of_table f T) ≡ of_table f T
 own_all f [] = refl
 own_all f (e ∷ T) = own_first f ((let x : Prefix = record { family = f; bits = e.prefix } in x), e.hop) (of_table f T) true (same_family_itself f) ∙ ap (λ E. ((let x : Prefix = record { family = f; bits = e.prefix } in x), e.hop) ∷ E) (own_all f T)
@@ -111,7 +118,7 @@ lays_one f label q r old new free free' S S' more E h path a i made =
     kept_by e k made = (is_entered f q r.prefix.len r.hop.0 free free' old new S S' more (omega (arith, r.prefix.fits, ap width (sym (same_family_is f r.prefix.family h)))) a k (subst (λ (l : Label). Places l r.hop.0 q r.prefix.len old free new free' S S' more) e made)).1
 
 -- prefixes of the code are prefixes
-all_prefixes : (es : List code_entry.Entry) → AllByRecursion IsPrefix (keys_of (map entry_as es))
+pub all_prefixes : (es : List code_entry.Entry) → AllByRecursion IsPrefix (keys_of (map entry_as es))
 all_prefixes [] = tt
 all_prefixes (e ∷ es) = (omega (arith, length_prefix (width e.prefix.family) e.prefix.len e.prefix.bits e.prefix.fits, e.prefix.fits), all_prefixes es)
 
@@ -127,16 +134,14 @@ rows_set f (e ∷ T) R l i =
     (x.0, x.1 ∙ ap (λ E. fold with_entry E (of_table f T)) (entries_put f f e.prefix e.hop R (put e.prefix e.hop R) R (of_table f R) l.0 refl refl refl refl i))
 
 -- what one walk from the root sets
-pub lays_front : (f : Family) (p : code.Prefix) (label : Label) (old new : List Node) (free free' : ℕ) (S S' : ℕ → Best) (es rs : List code_entry.Entry) → prefix_as p ≡ record { family = f; bits = [] } → IsArena f old free → InPlace (of_table f (rows_of label (whole f old))) →
-    Merges label 0 (width p.family - p.len) (prefix_as p) old new free free' S S' 0 (map entry_as es) (map entry_as rs) → Lays f label old new free' S S' (map entry_as es) (map entry_as rs)
-lays_front f p label old new free free' S S' es rs is a i w =
+pub lays_front : (f : Family) (p : code.Prefix) (label : Label) (old new : List Node) (free free' : ℕ) (S S' : ℕ → Best) (E R : Entries) → AllByRecursion IsPrefix (keys_of E) → prefix_as p ≡ record { family = f; bits = [] } → IsArena f old free → InPlace (of_table f (rows_of label (whole f old))) →
+    Merges label 0 (width p.family - p.len) (prefix_as p) old new free free' S S' 0 E R → Lays f label old new free' S S' E R
+lays_front f p label old new free free' S S' E R prefixes is a i w =
     let y = w.merged (suc (width f)) a.name a.spares [] (omega (arith, ap (λ (x : Prefix). width x.family) is)) a.tree a.held in
     let T = w.taken in
-    let E = map entry_as es in
-    let R = map entry_as rs in
     let Old = rows_of label (whole f old) in
     let front : E ≡ of_table f T ++ R = w.front ∙ ap (λ z. z ++ R) (told_whole f p T is) in
-    let fits = fits_in_place f T (front_prefixes (of_table f T) R (subst (λ (F : Entries). AllByRecursion IsPrefix (keys_of F)) front (all_prefixes es))) in
+    let fits = fits_in_place f T (front_prefixes (of_table f T) R (subst (λ (F : Entries). AllByRecursion IsPrefix (keys_of F)) front prefixes)) in
     let s = rows_set f T Old fits i in
     record {
       arena = record { name = y.name'; spares = y.spares; tree = y.tree; held = y.held };

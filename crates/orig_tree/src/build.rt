@@ -1,14 +1,17 @@
 //! A tree built in one walk over routes that stand in order: a node takes its place before its halves, and is written once, when
 //! they are built, with its route, its cover and what it keeps of its region.
 
-ghost use Rattle.std.specs.Prelude.{◌≡◌, ◌≢◌, ℕ, ◌<◌, ◌-◌, suc, Bool, true, false, List, [], ◌∷◌, ◌++◌, OnOk, IfOk, map, vec_len, length, slice_set, ◌≤◌};
+ghost use Rattle.std.specs.Prelude.{◌≡◌, ◌≢◌, ℕ, ◌<◌, ◌-◌, suc, Bool, true, false, List, [], ◌∷◌, ◌++◌, OnOk, IfOk, vec_len, length, slice_set, ◌≤◌};
+ghost use Rattle.std.specs.List.{AllByRecursion};
+ghost use Rattle.std.specs.Map.{keys_of};
+ghost use Rattle.table_model.specs.Address.{IsPrefix};
 ghost use Rattle.table_model.specs.Width.{width};
 ghost use Rattle.table_model.specs.Table.{here};
 ghost use Rattle.table_model.specs.Entries.{of_table};
 ghost use Rattle.table_model.specs.Regions.{lift};
 ghost use Rattle.table_model.specs.Sets.{side};
 ghost use Rattle.table_model.specs.Halves.{half_at};
-ghost use Rattle.fib_addr.specs.Views.{entry_as, prefix_as};
+ghost use Rattle.fib_addr.specs.Views.{prefix_as};
 ghost use Rattle.orig_tree.specs.Arena.{blank_cell, bare_cover_is, cells_of, cover_at, link, retold, IsArena};
 ghost use Rattle.orig_tree.specs.Bests.{IsRegionBest, best_one, best_in, best_behind, KeepsBest};
 ghost use Rattle.orig_tree.specs.Merged.{Lays};
@@ -18,17 +21,18 @@ ghost use Rattle.orig_tree.specs.declared.node.Label.TheVariants.{Route};
 use crate::best::{Best, Bests, exchange, join_kept};
 use crate::merge::next_half;
 use crate::node::{Label, MOST, Node, Nodes, leaf, put, retell};
-use fib_addr::{Entry, Family, Prefix};
+use crate::source::EntrySource;
+use fib_addr::{Family, Prefix};
 use std::alloc::{AllocError, Global};
 
 /// Takes the first route, where that is at the prefix, and tells its hop.
-fn take_own(at: &Prefix, routes: &mut &[Entry]) -> Option<u16>
-    ensures { map entry_as routes.old.now ≡ of_table (prefix_as at.now).family (lift (prefix_as
-        at.now).bits (here result)) ++ map entry_as routes.new.now }
+fn take_own<S: EntrySource>(at: &Prefix, routes: &mut S) -> Option<u16>
+    ensures { S.left routes.old ≡ of_table (prefix_as at.now).family (lift (prefix_as
+        at.now).bits (here result)) ++ S.left routes.new }
 {
-    match *routes {
-        [first, rest @ ..] if first.prefix.len == at.len && first.prefix == *at => {
-            *routes = rest;
+    match routes.first() {
+        Some(first) if first.prefix.len == at.len && first.prefix == *at => {
+            routes.pass();
             Some(first.hop.0)
         }
         _ => None,
@@ -128,14 +132,14 @@ fn put_over(
 ///
 /// No memory, which comes too where there would be 2^31 nodes or more.
 #[cycle(build)]
-fn build(
+fn build<S: EntrySource>(
     alloc: Global,
     nodes: &mut Nodes,
     bests: &mut Bests,
     place: usize,
     at: &Prefix,
     inherited: u16,
-    routes: &mut &[Entry],
+    routes: &mut S,
 ) -> Result<(), AllocError>
     requires place { place ≤ vec_len bests.old.halves }
     requires same { vec_len nodes.old.halves ≡ vec_len bests.old.halves }
@@ -143,7 +147,7 @@ fn build(
     ensures more { OnOk result (vec_len nodes.old.halves ≤ vec_len nodes.new.halves) }
     ensures built { OnOk result (Builds inherited (width at.now.family - at.now.len) (prefix_as at.now)
         place (cells_of nodes.old) (cells_of nodes.new) nodes.old.free nodes.new.free (best_in bests.old)
-        (best_in bests.new) (map entry_as routes.old.now) (map entry_as routes.new.now)) }
+        (best_in bests.new) (S.left routes.old) (S.left routes.new)) }
 {
     let own = take_own(at, routes);
     let hop = own.unwrap_or(inherited);
@@ -151,7 +155,7 @@ fn build(
         put_alone(nodes, bests, place, own, hop);
         return Ok(());
     }
-    match next_half(*routes, at) {
+    match next_half(routes, at) {
         None => {
             put_alone(nodes, bests, place, own, hop);
             Ok(())
@@ -163,7 +167,7 @@ fn build(
         }
         Some(false) => {
             let low = build_half(alloc, nodes, bests, at, false, hop, routes)?;
-            let Some(true) = next_half(*routes, at) else {
+            let Some(true) = next_half(routes, at) else {
                 put_over(alloc, nodes, bests, place, own, hop, low, 0)?;
                 return Ok(());
             };
@@ -177,14 +181,14 @@ fn build(
 /// The same of a half of the region, which becomes a node, whose place it tells: it takes that before those below it, so that the
 /// nodes lie as the walks meet them.
 #[cycle(build)]
-fn build_half(
+fn build_half<S: EntrySource>(
     alloc: Global,
     nodes: &mut Nodes,
     bests: &mut Bests,
     at: &Prefix,
     bit: bool,
     inherited: u16,
-    routes: &mut &[Entry],
+    routes: &mut S,
 ) -> Result<u32, AllocError>
     requires longer { at.now.len < width at.now.family }
     requires same { vec_len nodes.old.halves ≡ vec_len bests.old.halves }
@@ -192,8 +196,8 @@ fn build_half(
     ensures more { OnOk result (vec_len nodes.old.halves ≤ vec_len nodes.new.halves) }
     ensures built { IfOk result (λ place. BuildsHalf inherited (width at.now.family - at.now.len - 1)
         (half_at bit (prefix_as at.now)) (cells_of nodes.old) (cells_of nodes.new) nodes.old.free
-        nodes.new.free (best_in bests.old) (best_in bests.new) (map entry_as routes.old.now)
-        (map entry_as routes.new.now) (link place)) }
+        nodes.new.free (best_in bests.old) (best_in bests.new) (S.left routes.old)
+        (S.left routes.new) (link place)) }
 {
     let place = take_place(nodes, bests)?;
     let half = at.half(bit);
@@ -209,29 +213,28 @@ fn build_half(
     Ok(place)
 }
 
-/// Builds a family's tree from a front of the routes, where there is the root alone, and gives the routes that are left.
+/// Builds a family's tree from a front of the routes, where there is the root alone, and takes these: the others are left.
 ///
 /// # Errors
 ///
 /// No memory, which comes too where there would be 2^31 nodes or more.
-pub(crate) fn build_all<'a>(
+pub(crate) fn build_all<S: EntrySource>(
     alloc: Global,
     family: Family,
     nodes: &mut Nodes,
     bests: &mut Bests,
-    routes: &'a [Entry],
-) -> Result<&'a [Entry], AllocError>
+    routes: &mut S,
+) -> Result<(), AllocError>
     requires arena { IsArena family (cells_of nodes.old) nodes.old.free }
     requires bare { cells_of nodes.old ≡ blank_cell ∷ [] }
     requires same { vec_len nodes.old.halves ≡ vec_len bests.old.halves }
+    requires prefixes { AllByRecursion IsPrefix (keys_of (S.left routes.old)) }
     ensures same { OnOk result (vec_len nodes.new.halves ≡ vec_len bests.new.halves) }
-    ensures lays { IfOk result (λ rest. Lays family Route (cells_of nodes.old) (cells_of nodes.new)
-        nodes.new.free (best_in bests.old) (best_in bests.new) (map entry_as routes.now) (map entry_as
-        rest.now)) }
+    ensures lays { OnOk result (Lays family Route (cells_of nodes.old) (cells_of nodes.new)
+        nodes.new.free (best_in bests.old) (best_in bests.new) (S.left routes.old) (S.left routes.new)) }
     ensures best { OnOk result (KeepsBest family (cells_of nodes.new) (best_in bests.new)) }
 {
     let root = Prefix::whole(family);
-    let mut rest = routes;
-    build(alloc, nodes, bests, 0, &root, 0, &mut rest)?;
-    Ok(rest)
+    build(alloc, nodes, bests, 0, &root, 0, routes)?;
+    Ok(())
 }

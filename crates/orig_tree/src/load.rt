@@ -2,12 +2,14 @@
 //! nodes keep is told anew when all are set, from the least regions on.
 
 ghost use Rattle.std.specs.Prelude.{◌≡◌, ◌≤◌, ◌+◌, ◌∷◌, [], ℕ, suc, List, Bool, true, false, OnOk, OnErr, IfOk, vec_len, map, filter, None};
+ghost use Rattle.std.specs.List.{AllByRecursion};
+ghost use Rattle.std.specs.Map.{keys_of};
 ghost use Rattle.table_model.specs.Bits.{bits_of};
 ghost use Rattle.table_model.specs.Width.{width};
 ghost use Rattle.table_model.specs.Table.{lpm};
 ghost use Rattle.orig_tree.specs.Walk.{rows_of};
 ghost use Rattle.orig_tree.specs.Views.{InPlace};
-ghost use Rattle.table_model.specs.Address.{same_family};
+ghost use Rattle.table_model.specs.Address.{IsPrefix, same_family};
 ghost use Rattle.table_model.specs.Entries.{Entries, of_table};
 ghost use Rattle.fib_addr.specs.Views.{entry_as};
 ghost use Rattle.orig_tree.specs.Arena.{blank_cell, cells_of, Owner, IfHalf, IsTree, walks_at, from_half, whole, IsArena};
@@ -20,6 +22,7 @@ use crate::build::build_all;
 use crate::merge::merge;
 use crate::node::{Label, Nodes, read, set_label};
 use crate::path::path_bits;
+use crate::source::EntrySource;
 use fib_addr::{Entry, Family, Prefix};
 use std::alloc::{AllocError, Global};
 
@@ -33,18 +36,18 @@ fn is_of(entry: &Entry, family: Family) -> bool
     )
 }
 
-/// The entries from the first of the family on.
-fn skip_others<'a>(family: Family, entries: &'a [Entry]) -> &'a [Entry]
-    ensures { own_of family (map entry_as result.now) ≡ own_of family (map entry_as entries.now) }
+/// Passes the entries before the first of the family.
+fn skip_others<S: EntrySource>(family: Family, entries: &mut S)
+    ensures own { own_of family (S.left entries.new) ≡ own_of family (S.left entries.old) }
+    ensures prefixes { AllByRecursion IsPrefix (keys_of (S.left entries.old))
+        → AllByRecursion IsPrefix (keys_of (S.left entries.new)) }
 {
-    let mut left = entries;
-    while let [first, rest @ ..] = left {
-        if is_of(first, family) {
-            return left;
+    while let Some(first) = entries.first() {
+        if is_of(&first, family) {
+            return;
         }
-        left = rest;
+        entries.pass();
     }
-    left
 }
 
 /// Sets a label of an entry's prefix, if the entry is of the family.
@@ -177,6 +180,31 @@ pub(crate) fn settle_all(
     Ok(())
 }
 
+/// Sets those of the routes that are left and of the family, each in its turn.
+///
+/// # Errors
+///
+/// No memory, which comes too where there would be 2^31 nodes or more; then a front of the routes may be set.
+fn insert_rest<S: EntrySource>(
+    family: Family,
+    nodes: &mut Nodes,
+    bests: &mut Bests,
+    routes: &mut S,
+) -> Result<(), AllocError>
+    requires arena { IsArena family (cells_of nodes.old) nodes.old.free }
+    requires long { vec_len nodes.old.halves ≤ vec_len bests.old.halves }
+    requires order { InPlace (of_table family (rows_of Route (whole family (cells_of nodes.old)))) }
+    ensures long { vec_len nodes.new.halves ≤ vec_len bests.new.halves }
+    ensures lays { OnOk result (Lays family Route (cells_of nodes.old) (cells_of nodes.new)
+        nodes.new.free (best_in bests.old) (best_in bests.new) (S.left routes.old) []) }
+{
+    while let Some(first) = routes.first() {
+        insert_one(family, nodes, bests, Label::Route, &first)?;
+        routes.pass();
+    }
+    Ok(())
+}
+
 /// Sets those of the routes that are of the family in a tree of the root alone, each in its turn, and tells what all nodes
 /// keep. A front of them that stands in the order of prefixes is built in one walk; only where more are left are those set
 /// after it, and what the nodes keep told anew.
@@ -184,28 +212,29 @@ pub(crate) fn settle_all(
 /// # Errors
 ///
 /// No memory, which comes too where there would be 2^31 nodes or more.
-pub(crate) fn load_all(
+pub(crate) fn load_all<S: EntrySource>(
     alloc: Global,
     family: Family,
     nodes: &mut Nodes,
     bests: &mut Bests,
-    routes: &[Entry],
+    routes: &mut S,
 ) -> Result<(), AllocError>
     requires arena { IsArena family (cells_of nodes.old) nodes.old.free }
     requires bare { cells_of nodes.old ≡ blank_cell ∷ [] }
     requires none { vec_len bests.old.halves ≡ 0 }
+    requires prefixes { AllByRecursion IsPrefix (keys_of (S.left routes.old)) }
     ensures long { OnOk result (vec_len nodes.new.halves ≤ vec_len bests.new.halves) }
     ensures lays { OnOk result (Lays family Route (cells_of nodes.old) (cells_of nodes.new)
-        nodes.new.free (best_in bests.old) (best_in bests.new) (map entry_as routes.now) []) }
+        nodes.new.free (best_in bests.old) (best_in bests.new) (S.left routes.old) []) }
     ensures best { OnOk result (KeepsBest family (cells_of nodes.new) (best_in bests.new)) }
 {
-    let own = skip_others(family, routes);
-    let rest = build_all(alloc, family, nodes, bests, own)?;
-    let left = skip_others(family, rest);
-    if left.is_empty() {
+    skip_others(family, routes);
+    build_all(alloc, family, nodes, bests, routes)?;
+    skip_others(family, routes);
+    if routes.first().is_none() {
         return Ok(());
     }
-    insert_all(family, nodes, bests, Label::Route, left)?;
+    insert_rest(family, nodes, bests, routes)?;
     settle_all(alloc, family, nodes, bests)?;
     Ok(())
 }

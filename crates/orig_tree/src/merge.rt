@@ -11,18 +11,19 @@ ghost use Rattle.orig_tree.specs.declared.best.Best.{Best as best_view};
 
 use crate::best::{Best, Bests, exchange};
 use crate::node::{Label, Nodes, climb, read, reserve, split, update_node};
+use crate::source::EntrySource;
 use fib_addr::{Entry, Prefix, bit_at};
 use std::alloc::AllocError;
 
 /// The half of the prefix that the first entry's prefix is within, if it is in one.
-pub(crate) fn next_half(entries: &[Entry], at: &Prefix) -> Option<bool>
+pub(crate) fn next_half<S: EntrySource>(entries: &S, at: &Prefix) -> Option<bool>
     requires { at.now.len < width at.now.family }
     ensures some { IfSome result (λ b. starts_within (half_at b (prefix_as at.now))
-        (map entry_as entries.now) ≡ true) }
+        (S.left entries.now) ≡ true) }
     ensures none { IfNone result ((b : Bool) → starts_within (half_at b (prefix_as at.now))
-        (map entry_as entries.now) ≡ false) }
+        (S.left entries.now) ≡ false) }
 {
-    let [first, ..] = entries else {
+    let Some(first) = entries.first() else {
         return None;
     };
     if first.prefix.len <= at.len {
@@ -106,7 +107,7 @@ pub(crate) fn merge(
     if at.len == at.family.width() {
         return Ok(());
     }
-    match next_half(*entries, at) {
+    match next_half(entries, at) {
         None => Ok(()),
         Some(true) => {
             merge_half(nodes, bests, i, true, at, inherited, label, entries)?;
@@ -114,7 +115,7 @@ pub(crate) fn merge(
         }
         Some(false) => {
             merge_half(nodes, bests, i, false, at, inherited, label, entries)?;
-            let Some(true) = next_half(*entries, at) else {
+            let Some(true) = next_half(entries, at) else {
                 return Ok(());
             };
             merge_half(nodes, bests, i, true, at, inherited, label, entries)?;

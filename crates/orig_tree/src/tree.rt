@@ -3,7 +3,7 @@
 ghost use Rattle.std.specs.Prelude.{◌≡◌, ◌≤◌, ◌+◌, [], ◌∷◌, true, List, length, Bool, OnOk, OnErr, IsOk, IfOk, IfSome, IfNone, map, filter, option_map};
 ghost use Rattle.std.specs.List.{AllByRecursion};
 ghost use Rattle.std.specs.Map.{keys_of, lookup, remove_entry};
-ghost use Rattle.table_model.specs.Address.{same_family, same_prefix};
+ghost use Rattle.table_model.specs.Address.{IsPrefix, same_family, same_prefix};
 ghost use Rattle.table_model.specs.Halves.{is_within};
 ghost use Rattle.table_model.specs.Entries.{with_entry, in_order, match_in, of_family, of_table};
 ghost use Rattle.table_model.specs.Uniform.{AllGet, TwoDiffer};
@@ -29,6 +29,7 @@ use crate::node_ref::NodeRef;
 use crate::parts::{OwnRoute, route_at, seek, tell_within};
 use crate::path::path_bits;
 use crate::region::{TreeRegion, below};
+use crate::source::EntrySource;
 use crate::undo::{Undo, keep_if, room_of};
 use crate::whole::{
     change, drop_unused, empty, insert_entry, insert_route, make_room, take_back, update_route,
@@ -136,6 +137,27 @@ impl Tree {
         ensures family { IfOk result (λ t. t.family ≡ family) }
         ensures routes { IfOk result (λ t. t.routes ≡ in_order (filter (λ e. same_family family
             e.0.family) (map entry_as routes.now))) }
+        ensures entries { IfOk result (λ t. t.entries ≡ []) }
+        ensures before { IfOk result (λ t. t.before ≡ t.routes) }
+    {
+        let mut left = routes;
+        Tree::load_from(alloc, family, &mut left)
+    }
+
+    /// A tree with those of the routes that a source gives that are of its family, as `load` makes it of a list: none is made.
+    ///
+    /// # Errors
+    ///
+    /// No memory, which comes too where there would be 2^31 nodes or more.
+    pub fn load_from<S: EntrySource>(
+        alloc: Global,
+        family: Family,
+        routes: &mut S,
+    ) -> Result<Tree, AllocError>
+        requires { AllByRecursion IsPrefix (keys_of (S.left routes.old)) }
+        ensures family { IfOk result (λ t. t.family ≡ family) }
+        ensures routes { IfOk result (λ t. t.routes ≡ in_order (filter (λ e. same_family family
+            e.0.family) (S.left routes.old))) }
         ensures entries { IfOk result (λ t. t.entries ≡ []) }
         ensures before { IfOk result (λ t. t.before ≡ t.routes) }
     {

@@ -32,7 +32,7 @@ unranked over ranks i none s o e = let x : false ≡ true = ap (λ rs. has_rank 
 
 -- ---- entries one after another
 
-entries_more : (hops : List Address) (paths : Paths) (ps qs : List code.Prefix) → entries_at hops paths (ps ++ qs) ≡ entries_at hops paths ps ++ entries_at hops paths qs
+pub entries_more : (hops : List Address) (paths : Paths) (ps qs : List code.Prefix) → entries_at hops paths (ps ++ qs) ≡ entries_at hops paths ps ++ entries_at hops paths qs
 entries_more hops paths ps qs = ap (map (with_hop_number hops)) (routes_more paths ps qs) ∙ map-append (with_hop_number hops) (routes_at paths ps) (routes_at paths qs)
 
 pub entry_pushed : (hops : List Address) (paths : Paths) (p : code.Prefix) (best : Option Candidate) (c : Candidate) (hop : Hop) (old new : List Entry) → IsBestHeld paths None p best → best ≡ Some c → hop.0 ≡ number_in hops (addr_as c.attrs.hop) → new ≡ old ++ (let e : Entry = record { prefix = p; hop = hop } in e) ∷ [] → map entry_as new ≡ map entry_as old ++ entries_at hops paths (p ∷ [])

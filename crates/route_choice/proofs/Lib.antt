@@ -8,6 +8,7 @@ pub mod Spaces
 pub mod Downs
 pub mod AllRoutes
 pub mod AllEntries
+pub mod FamilyWalks
 pub mod AllPrefixes
 pub mod RankWays
 pub mod ListWays

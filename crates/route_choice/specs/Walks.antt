@@ -1,8 +1,9 @@
 -- What walks over path keys and ranks find.
-use Rattle.std.specs.Prelude.{◌≡◌, ◌==◌, ◌&&◌, ◌||◌, nat_lt, ℕ, List, [], ◌∷◌, Bool, true, Option, Some, None, map, filter, flat_map, slice_get, if◌then◌else◌}
+use Rattle.std.specs.Prelude.{◌≡◌, ◌==◌, ◌&&◌, ◌||◌, nat_lt, ℕ, List, [], ◌∷◌, Bool, true, Option, Some, None, map, filter, flat_map, drop, slice_get, if◌then◌else◌}
 use Rattle.std.specs.List.{AllByRecursion, list_any}
 use Rattle.std.specs.BTreeMap.{is_at}
-use Rattle.table_model.specs.Address.{Address, Prefix, same_prefix}
+use Rattle.table_model.specs.Address.{Address, Prefix, same_family, same_prefix}
+use Rattle.table_model.specs.declared.family.Family.{Family}
 use Rattle.table_model.specs.Entries.{Entries}
 use Rattle.kept_model.specs.Feed.{number_in}
 use Rattle.fib_addr.specs.Views.{prefix_as}
@@ -88,6 +89,10 @@ with_hop_number hops r = (r.0, number_in hops r.1)
 abbrev pub entries_at : List Address → Paths → List code.Prefix → Entries
 entries_at hops paths ps = map (with_hop_number hops) (routes_at paths ps)
 
+-- those of them that are of the family
+abbrev pub family_entries_at : Family → List Address → Paths → List code.Prefix → Entries
+family_entries_at f hops paths ps = filter (λ e. same_family f e.0.family) (entries_at hops paths ps)
+
 -- nothing is offered at any path key
 abbrev pub OffersNothing : Paths → Type 0
 OffersNothing paths = (s : PathKey) (attrs : PathAttrs) → attrs_at paths s ≡ Some attrs → ⊥
@@ -105,6 +110,10 @@ HasRanks ranks ps = AllByRecursion (λ r. has_prefix ps r.prefix ≡ true) ranks
 -- the prefixes of rows, and those of ranks
 abbrev pub row_prefixes : List Row → List code.Prefix
 row_prefixes rows = map (λ (r : Row). r.prefix) rows
+
+-- the prefixes of the rows from a place on
+abbrev pub rows_from : ℕ → List Row → List code.Prefix
+rows_from n rows = drop n (row_prefixes rows)
 
 abbrev pub rank_prefixes : List Rank → List code.Prefix
 rank_prefixes ranks = map (λ (r : Rank). r.prefix) ranks

@@ -1,6 +1,7 @@
 //! The candidates: the routes among which one is chosen for each prefix.
 
-ghost use Rattle.std.specs.Prelude.{◌≡◌, [], map, option_map, Some, None, IfOk, OnOk, OnErr};
+ghost use Rattle.std.specs.Prelude.{◌≡◌, [], filter, map, option_map, Some, None, IfOk, IfSome, OnOk, OnErr};
+ghost use Rattle.table_model.specs.Address.{same_family};
 ghost use Rattle.fib_addr.specs.Views.{addr_as, entry_as, prefix_as, route_as};
 ghost use Rattle.std.specs.List.{AllByRecursion};
 ghost use Rattle.fib_prefix.specs.Views.{IsOfOctets, cand_as, peer_as, event_as, elem_as};
@@ -18,11 +19,12 @@ use crate::both::{best_of, carry_one, choice_of, load_elem, make_space, plan_of,
 use crate::choice::{Choice, Pick};
 use crate::down::cuts_of;
 use crate::entries::entries_of as all_entries;
+use crate::family_routes::FamilyRoutes;
 use crate::over::give_back;
 use crate::plan::{Plan, end_plan, over_of};
 use crate::routes::routes_of as all_routes;
 use adj_rib_in::{Flat, PathAttrs, PathKey, Rank};
-use fib_prefix::{Addr, Cand, CandSink, Elem, Entry, Event, HopTable, Peer, Prefix, Via};
+use fib_prefix::{Addr, Cand, CandSink, Elem, Entry, Event, Family, HopTable, Peer, Prefix, Via};
 use std::alloc::{AllocError, Global};
 use std::collections::{BTreeMap, BTreeSet};
 use std::marker::Model;
@@ -236,6 +238,22 @@ impl Candidates {
         ensures held { AreCandidates self.now.candidates }
     {
         all_entries(self.alloc, &self.flat, &self.paths, &self.ranks, hops)
+    }
+
+    /// The same of a family one by one, as they are chosen, where all routes lie in the base: no list is made. `None` where some
+    /// came out of the order of prefixes, or with updates.
+    pub fn family_routes<'a>(
+        &'a self,
+        family: Family,
+        hops: &'a HopTable,
+    ) -> Option<FamilyRoutes<'a>>
+        ensures { IfSome result (λ routes. routes ≡ filter (λ e. same_family family e.0.family)
+            (entries_of hops.now.list self.now.candidates)) }
+    {
+        if !self.ranks.is_empty() {
+            return None;
+        }
+        Some(FamilyRoutes::new(&self.flat, &self.paths, hops, family))
     }
 
     /// All candidates, in the order of prefixes, then of path sources, in one list: 144 octets each. `emit_all` makes no list.

@@ -101,7 +101,7 @@ fn push_entry(
 }
 
 /// The number of a hop, none's where it has no number.
-fn number(hops: &HopTable, hop: &Addr) -> Hop
+pub(crate) fn number(hops: &HopTable, hop: &Addr) -> Hop
     ensures { result.0 ≡ number_in hops.now.list (addr_as hop.now) }
 {
     hops.find(hop).unwrap_or(Hop::NONE)

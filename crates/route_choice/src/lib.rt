@@ -27,6 +27,7 @@ mod candidates;
 mod choice;
 mod down;
 mod entries;
+mod family_routes;
 mod over;
 mod plan;
 mod prefixes;
@@ -34,3 +35,4 @@ mod routes;
 
 pub use candidates::Candidates;
 pub use choice::{Choice, Pick};
+pub use family_routes::FamilyRoutes;

@@ -5,7 +5,7 @@ use Rattle.orig_tree.specs.Arena.{cells_of}
 use Rattle.orig_tree.specs.Bests.{best_in}
 use Rattle.orig_tree.specs.Merged.{Lays}
 use Rattle.orig_tree.proofs.Weaving.{first_rest}
-use Rattle.orig_tree.proofs.Loading.{lays_none, lays_after, lays_front}
+use Rattle.orig_tree.proofs.Loading.{all_prefixes, lays_none, lays_after, lays_front}
 use Rattle.orig_tree.proofs.load.insert_all.Goals as goal
 
 pub loop-left-init : goal.loop-left-init
@@ -23,7 +23,7 @@ loop-left-preserved c =
     let C = cells_of c.insert_one.new.nodes in
     let D = cells_of c.merge.new.nodes in
     let one = subst (λ (E : Entries). Lays f l B C c.insert_one.new.nodes.free (best_in c.loop-left.bests) (best_in c.insert_one.new.bests) E (map entry_as rest)) (sym (ap (map entry_as) (first_rest left x c.in-len1-up.len_at_least c.first-item.is))) (c.in_ok-insert_one.ensures.lays (map entry_as rest)) in
-    let more = lays_front f c.whole-root.result l C D c.insert_one.new.nodes.free c.merge.new.nodes.free (best_in c.insert_one.new.bests) (best_in c.merge.new.bests) rest c.merge.new.entries.now c.whole-root.ensures one.arena one.order c.in_ok-merge.ensures.merged in
+    let more = lays_front f c.whole-root.result l C D c.insert_one.new.nodes.free c.merge.new.nodes.free (best_in c.insert_one.new.bests) (best_in c.merge.new.bests) (map entry_as rest) (map entry_as c.merge.new.entries.now) (all_prefixes rest) c.whole-root.ensures one.arena one.order c.in_ok-merge.ensures.merged in
     record {
       long = c.merge.ensures.long;
       lays = lays_after f l A B D c.loop-left.nodes.free c.merge.new.nodes.free (best_in c.args.bests.now) (best_in c.loop-left.bests) (best_in c.merge.new.bests) (map entry_as c.args.entries.now) (map entry_as left) (map entry_as c.merge.new.entries.now) c.loop-left.invariant.lays
