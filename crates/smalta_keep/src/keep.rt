@@ -3,7 +3,8 @@
 ghost use Rattle.std.specs.Prelude.{◌≡◌, ◌≤◌, filter, ◌∷◌, ◌++◌, [], true, false, Some, None, IfOk, OnOk, OnErr, map};
 ghost use Rattle.std.specs.Option.{ForSome};
 ghost use Rattle.std.specs.List.{AllByRecursion};
-ghost use Rattle.table_model.specs.Address.{same_family};
+ghost use Rattle.std.specs.Map.{keys_of};
+ghost use Rattle.table_model.specs.Address.{IsPrefix, same_family};
 ghost use Rattle.table_model.specs.Entries.{in_order};
 ghost use Rattle.table_model.specs.Changes.{after_changes};
 ghost use Rattle.table_model.specs.Both.{aggregate_in};
@@ -29,7 +30,7 @@ use crate::routes::{former_prefix, planned_prefix, put_back_planned, set};
 use cert_model::RowSink;
 use fib_addr::{Entry, EntrySink, Family, Hop, Prefix};
 use fib_delta::Change;
-use orig_tree::Tree;
+use orig_tree::{EntrySource, Tree};
 use ortc::{Fresh, certify, emit_least, fresh, least_table};
 use std::alloc::{AllocError, Global};
 use std::marker::Model;
@@ -99,6 +100,32 @@ impl Keep {
         ensures table { IfOk result (λ k. k.entries ≡ []) }
     {
         let tree = Tree::load(alloc, family, routes)?;
+        Ok(Keep {
+            alloc,
+            tree,
+            dirty: DirtySet::all(),
+            held: None,
+        })
+    }
+
+    /// Those of the routes that a source gives that are of the family, and an empty table, as `load` makes it of a list: none is made.
+    ///
+    /// # Errors
+    ///
+    /// No memory.
+    pub fn load_from<S: EntrySource>(
+        alloc: Global,
+        family: Family,
+        routes: &mut S,
+    ) -> Result<Keep, AllocError>
+        requires prefixes { AllByRecursion IsPrefix (keys_of (S.left routes.old)) }
+        requires hops { AllByRecursion (λ r. 1 ≤ r.1) (S.left routes.old) }
+        ensures family { IfOk result (λ k. k.family ≡ family) }
+        ensures routes { IfOk result (λ k. k.routes ≡ in_order (filter (λ e. same_family family
+            e.0.family) (S.left routes.old))) }
+        ensures table { IfOk result (λ k. k.entries ≡ []) }
+    {
+        let tree = Tree::load_from(alloc, family, routes)?;
         Ok(Keep {
             alloc,
             tree,
