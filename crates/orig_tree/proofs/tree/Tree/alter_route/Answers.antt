@@ -1,4 +1,4 @@
-use Rattle.std.proofs.Common.{◌≡◌, ◌≤◌, List, suc, Option, refl, sym, ap, subst, arith, ◌∙◌, length}
+use Rattle.std.proofs.Common.{◌≡◌, ◌≤◌, List, Option, refl, sym, ap, subst, arith, ◌∙◌, length}
 use Rattle.table_model.specs.Bits.{bits_of}
 use Rattle.table_model.specs.Width.{width}
 use Rattle.table_model.specs.Address.{Prefix}

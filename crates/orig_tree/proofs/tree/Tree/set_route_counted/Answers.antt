@@ -1,10 +1,10 @@
-use Rattle.std.proofs.Common.{◌≡◌, ◌≤◌, List, suc, refl, sym, ap, ◌∙◌, arith, length}
+use Rattle.std.proofs.Common.{◌≡◌, ◌≤◌, List, sym, ap, ◌∙◌, arith, length}
 use Rattle.table_model.specs.Bits.{bits_of}
 use Rattle.table_model.specs.Width.{width}
 use Rattle.table_model.specs.Address.{Prefix}
 use Rattle.table_model.proofs.BitLaws.{length-bits_of}
-use Rattle.table_model.specs.Entries.{with_entry, of_table}
-use Rattle.orig_tree.specs.Walk.{Walks, has_node}
+use Rattle.table_model.specs.Entries.{with_entry}
+use Rattle.orig_tree.specs.Walk.{Walks}
 use Rattle.orig_tree.specs.Views.{Labels}
 use Rattle.orig_tree.specs.Arena.{cells_of, whole}
 use Rattle.orig_tree.specs.Bests.{best_in}
@@ -12,7 +12,7 @@ use Rattle.orig_tree.specs.Within.{nodes_in}
 use Rattle.fib_addr.specs.Views.{prefix_as}
 use Rattle.orig_tree.specs.declared.node.Node.{Node}
 use Rattle.orig_tree.proofs.Places.{in_place_put, same_rows, entries_put}
-use Rattle.orig_tree.proofs.Undoing.{can_same, can_undo, few_bits, true_not}
+use Rattle.orig_tree.proofs.Undoing.{can_same, true_not}
 use Rattle.orig_tree.proofs.tree.Tree.set_route_counted.Goals as goal
 
 pub invariant_of-self : goal.invariant_of-self
