@@ -1,7 +1,7 @@
 -- The free places of an arena, and the blocks that they make.
 use Rattle.std.proofs.Common.{replicate}
 use Rattle.std.specs.List.{AllByRecursion}
-use Rattle.std.specs.Prelude.{◌≡◌, ◌<◌, ◌≤◌, Option, Some, None, ℕ, zero, suc, ◌+◌, ◌^◌, List, [], ◌∷◌, ◌++◌, length, map, take, drop, Bool, true, false, cond, nat_eq, nat_le, nat_lt, ◌*◌, ◌||◌, ◌&&◌, ◌⊎◌}
+use Rattle.std.specs.Prelude.{◌≡◌, ◌<◌, ◌≤◌, Option, Some, None, ℕ, zero, suc, ◌+◌, ◌-◌, ◌^◌, List, [], ◌∷◌, ◌++◌, length, map, take, drop, Bool, true, false, cond, nat_eq, nat_le, nat_lt, ◌*◌, ◌||◌, ◌&&◌, ◌⊎◌}
 
 -- a block: its order and its place
 abbrev pub Free : Type 0
@@ -99,6 +99,10 @@ pub record TakesBlock (order : ℕ) (old new : List Bool) (place k : ℕ) : Type
   pub chosen : (m : ℕ) × IsLeastFrom k m (blocks order old) × (place ≡ first_block m (blocks order old)) × Splits k m (blocks order old) (blocks order new)
   pub were : marked place (2 ^ k) true old ≡ old
   pub free : new ≡ marked place (2 ^ k) false old
+
+-- the cells with the value after them, up to n
+abbrev pub padded : {T : Type 0} → ℕ → T → List T → List T
+padded n v xs = xs ++ replicate (n - length xs) v
 
 -- an arena of which nothing was taken or written
 abbrev pub empty : {T : Type 0} → ℕ → T → Space T

@@ -1,6 +1,6 @@
 //! The arena: which places are free, and the cells.
 
-ghost use Rattle.std.specs.Prelude.{◌≡◌, ℕ, ◌+◌, ◌-◌, ◌*◌, ◌/◌, ◌^◌, ◌<◌, ◌≤◌, true, length, drop, OnErr, IfOk, IfErr, Option, slice_index_or, slice_set};
+ghost use Rattle.std.specs.Prelude.{◌≡◌, ℕ, ◌+◌, ◌-◌, ◌*◌, ◌/◌, ◌^◌, ◌<◌, ◌≤◌, true, length, vec_capacity, ◌++◌, OnErr, IfOk, IfErr, Option, slice_index_or, slice_set};
 ghost use Rattle.std.proofs.Common.{replicate};
 ghost use Rattle.buddy_arena.specs.Space.{blocks, marked, NoneFrom, IsGreatest, Space, IsOut, IsSized, TakesBlock, empty, free_count, OneEach, Apart};
 ghost use Rattle.buddy_arena.specs.Masks.{ord, free_of, IsMaskTree};
@@ -29,23 +29,17 @@ pub struct Full {
     pub largest: Option<u8>,
 }
 
-/// Makes each cell the value.
-fn fill_cells<T: Copy>(cells: &mut [T], value: T)
-    ensures { cells.new ≡ replicate (length cells.old) value }
+/// Writes the value from the last cell on, up to a place for which there is room.
+fn fill_up<T: Copy>(cells: &mut Vec<T>, end: usize, value: T)
+    requires from { length cells.old.items ≤ end }
+    requires room { end ≤ vec_capacity cells.old }
+    ensures items { cells.new.items
+        ≡ cells.old.items ++ replicate (end - length cells.old.items) value }
+    ensures capacity { vec_capacity cells.new ≡ vec_capacity cells.old }
 {
-    for cell in cells.iter_mut() {
-        *cell = value;
+    for i in cells.len()..end {
+        cells.push_reserved(value);
     }
-}
-
-/// Makes each cell what it was at first, where those from `high` on are.
-fn clear_cells<T: Copy>(cells: &mut [T], high: usize, value: T)
-    requires few { high ≤ length cells.old }
-    requires rest { drop high cells.old ≡ replicate (length cells.old - high) value }
-    ensures { cells.new ≡ replicate (length cells.old) value }
-{
-    let (used, rest) = cells.split_at_mut(high);
-    fill_cells(used, value);
 }
 
 /// The order of a word of places in an arena of this order.
@@ -61,7 +55,8 @@ fn word_order(order: u8) -> u8
 
 /// An arena of 2 ^ order places, each with a cell. A place is free, or out: in a block that was taken and not given back.
 ///
-/// It takes all its memory when it is made: its cells, and two bits a place.
+/// It takes all its memory when it is made: room for its cells, and two bits a place. A cell that was never written is only
+/// reserved: pages are touched from the first on, up to the last cell that was written.
 #[derive(Drop)]
 pub struct Arena<T: Copy> {
     /// The order of a word of places, at most 6.
@@ -69,18 +64,16 @@ pub struct Arena<T: Copy> {
     /// How many levels stand above the words.
     height: u8,
     masks: Vec<u64>,
+    /// The cells up to the last one that was written; those after it are as at first.
     cells: Vec<T>,
     fill: T,
     /// How many places are free.
     left: u64,
-    /// The cells from here on are as at first.
-    high: usize,
 }
 
 impl<T: Copy> Model for Arena<T> {
-    ghost use Rattle.std.specs.Prelude.{◌≡◌, ◌+◌, ◌-◌, ◌^◌, ◌<◌, ◌≤◌, length, drop};
-    ghost use Rattle.std.proofs.Common.{replicate};
-    ghost use Rattle.buddy_arena.specs.Space.{Space, free_count};
+    ghost use Rattle.std.specs.Prelude.{◌≡◌, ◌+◌, ◌^◌, ◌<◌, ◌≤◌, length, vec_capacity};
+    ghost use Rattle.buddy_arena.specs.Space.{Space, padded, free_count};
     ghost use Rattle.buddy_arena.specs.Masks.{ord, free_of, IsMaskTree};
 
     ghost Value = { Space T };
@@ -88,16 +81,15 @@ impl<T: Copy> Model for Arena<T> {
     ghost view = { λ a. record {
       order = ord a.base a.height;
       free = free_of a.base a.height a.masks.items;
-      cells = a.cells.items;
+      cells = padded (2 ^ ord a.base a.height) a.fill a.cells.items;
       fill = a.fill;
     } };
 
     ghost invariant = { λ a. (a.base ≤ 6) × (a.base + a.height < 31)
         × IsMaskTree a.base a.height a.masks.items
-        × (length a.cells.items ≡ 2 ^ ord a.base a.height)
+        × (length a.cells.items ≤ 2 ^ ord a.base a.height)
         × (a.left ≡ free_count (free_of a.base a.height a.masks.items))
-        × (a.high ≤ 2 ^ ord a.base a.height)
-        × (drop a.high a.cells.items ≡ replicate (2 ^ ord a.base a.height - a.high) a.fill) };
+        × (2 ^ ord a.base a.height ≤ vec_capacity a.cells) };
 }
 
 impl<T: Copy> Arena<T> {
@@ -123,13 +115,8 @@ impl<T: Copy> Arena<T> {
     {
         let mut masks = bare_masks(alloc, height, base)?;
         make_all(&mut masks, height, base);
-        let mut cells = Vec::new(alloc);
         let left = all_places(height, base);
-        let len = left as usize;
-        cells.reserve(len)?;
-        for i in 0..len {
-            cells.push_reserved(fill);
-        }
+        let cells = Vec::with_capacity(alloc, left as usize)?;
         Ok(Arena {
             base,
             height,
@@ -137,7 +124,6 @@ impl<T: Copy> Arena<T> {
             cells,
             fill,
             left,
-            high: 0,
         })
     }
 
@@ -215,13 +201,12 @@ impl<T: Copy> Arena<T> {
         largest_in(&self.masks, self.height, self.base)
     }
 
-    /// Takes all back, and makes each cell what it was at first, in the time of what was taken and written since.
+    /// Takes all back, and makes each cell what it was at first, in the time of what was taken since.
     pub fn clear(&mut self)
         ensures { self.new ≡ empty self.old.order self.old.fill }
     {
         free_all(&mut self.masks, self.height, self.base);
-        clear_cells(&mut self.cells, self.high, self.fill);
-        self.high = 0;
+        self.cells.clear();
         self.left = all_places(self.height, self.base);
     }
 
@@ -234,12 +219,14 @@ impl<T: Copy> Arena<T> {
         ensures kept { (self.new.order ≡ self.old.order)
             × (self.new.free ≡ self.old.free) × (self.new.fill ≡ self.old.fill) }
     {
-        let high = self.high;
+        let fill = self.fill;
         let index = (block.place + at) as usize;
-        self.cells[index] = value;
-        if high <= index {
-            self.high = index + 1;
+        if index < self.cells.len() {
+            self.cells[index] = value;
+            return;
         }
+        fill_up(&mut self.cells, index, fill);
+        self.cells.push_reserved(value);
     }
 
     /// The cell of a place: what was last written there since the arena was made or cleared, else the value that it was filled
@@ -248,6 +235,11 @@ impl<T: Copy> Arena<T> {
         requires { index < length self.now.cells }
         ensures { result ≡ slice_index_or self.now.cells index self.now.fill }
     {
-        self.cells[index as usize]
+        let index = index as usize;
+        if index < self.cells.len() {
+            self.cells[index]
+        } else {
+            self.fill
+        }
     }
 }

@@ -14,7 +14,6 @@ invariant_of-self g c =
       c.self.invariant.3,
       rw same (omega (arith, c.give_to.ensures.total, old, c.whole_mask.ensures, c.self.invariant.4)),
       c.self.invariant.5,
-      c.self.invariant.6,
     )
 
 pub returns-clause-free : goal.returns-clause-free

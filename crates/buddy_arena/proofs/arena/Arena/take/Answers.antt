@@ -1,6 +1,7 @@
-use Rattle.std.proofs.Common.{sym, ap, ◌∙◌, arith}
+use Rattle.std.proofs.Common.{◌^◌, sym, ap, ◌∙◌, arith}
 use Rattle.buddy_arena.specs.Space.{free_count}
-use Rattle.buddy_arena.specs.Masks.{free_of}
+use Rattle.buddy_arena.specs.Masks.{ord, free_of}
+use Rattle.buddy_arena.proofs.Calls.{len_padded}
 use Rattle.buddy_arena.proofs.Masks.{free_len, ord_is}
 use Rattle.buddy_arena.proofs.Others.{lent_all}
 use Rattle.buddy_arena.proofs.arena.Arena.take.Goals as goal
@@ -15,7 +16,6 @@ invariant_of-self g c =
       c.self.invariant.3,
       rw same (omega (arith, c.in-Ok.ensures.total.1, old, c.whole_mask.ensures, c.self.invariant.4)),
       c.self.invariant.5,
-      c.self.invariant.6,
     )
 
 pub invariant_of-self-in-Err : goal.invariant_of-self-in-Err
@@ -27,7 +27,6 @@ invariant_of-self-in-Err g c =
       c.self.invariant.3,
       rw same (c.self.invariant.4 ∙ sym (ap (λ s. free_count (free_of c.self.inside.base c.self.inside.height s)) (c.in-Err.ensures.err ∙ c.deref_mut.ensures.value))),
       c.self.invariant.5,
-      c.self.invariant.6,
     )
 
 pub returns-in-Ok-clause-ok : goal.returns-in-Ok-clause-ok
@@ -74,10 +73,10 @@ returns-in-Err-clause-still g c =
     rw (← c.self.view_is, same, ← c.deref_mut.ensures.value) c.in-Err.ensures.still
 
 pub returns-in-Ok-clause-sized : goal.returns-in-Ok-clause-sized
-returns-in-Ok-clause-sized g c = record { small = omega (arith, ord_is c.self.inside.base c.self.inside.height, c.self.invariant.1); places = free_len c.self.inside.base c.self.inside.height _; cells = c.self.invariant.3 }
+returns-in-Ok-clause-sized g c = record { small = omega (arith, ord_is c.self.inside.base c.self.inside.height, c.self.invariant.1); places = free_len c.self.inside.base c.self.inside.height _; cells = len_padded (2 ^ ord c.self.inside.base c.self.inside.height) c.self.inside.fill c.self.inside.cells.items c.self.invariant.3 }
 
 pub returns-in-Err-clause-sized : goal.returns-in-Err-clause-sized
-returns-in-Err-clause-sized g c = record { small = omega (arith, ord_is c.self.inside.base c.self.inside.height, c.self.invariant.1); places = free_len c.self.inside.base c.self.inside.height _; cells = c.self.invariant.3 }
+returns-in-Err-clause-sized g c = record { small = omega (arith, ord_is c.self.inside.base c.self.inside.height, c.self.invariant.1); places = free_len c.self.inside.base c.self.inside.height _; cells = len_padded (2 ^ ord c.self.inside.base c.self.inside.height) c.self.inside.fill c.self.inside.cells.items c.self.invariant.3 }
 
 pub returns-in-Ok-clause-apart : goal.returns-in-Ok-clause-apart
 returns-in-Ok-clause-apart g c = rw (← c.self.view_is, ← c.deref_mut.ensures.value) c.in-Ok.ensures.apart
