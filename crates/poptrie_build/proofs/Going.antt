@@ -1,5 +1,5 @@
 -- The children and the leaves of a node while its slots are gone through.
-use Rattle.std.proofs.Common.{◌≡◌, ◌≢◌, ℕ, zero, suc, ◌+◌, ◌-◌, ◌*◌, ◌<◌, ◌≤◌, List, Bool, true, false, cond, nat_eq, Option, Some, None, length, get_or, refl, sym, ap, ◌∙◌, arith, subst, inl, inr}
+use Rattle.std.proofs.Common.{◌≡◌, ◌≢◌, ℕ, zero, suc, ◌+◌, ◌-◌, ◌*◌, ◌<◌, ◌≤◌, List, [], ◌∷◌, Bool, true, false, cond, nat_eq, Option, Some, None, length, get_or, refl, sym, ap, ◌∙◌, arith, subst, inl, inr}
 use Rattle.std.specs.Prelude.{not, ◌&&◌}
 use Rattle.std.specs.Int.{bit_at}
 use Rattle.std.proofs.Math.ListN.{set, length-set}
@@ -106,6 +106,36 @@ same_place n g u v h k l m b p q r =
     let same : rank_of n (u + 1 + w) ≡ rank_of n (u + 1) = ap (rank_of n) s ∙ omega arith in
     let before : leaf_before g v ≡ Some h = ap (leaf_before g) (sym s) ∙ leaf_goes_on n g u h w p (λ x y. b x (omega arith)) same in
     no_start k h (ap (λ o. starts o (Some h)) (sym q) ∙ (ap (starts (g v)) (sym before) ∙ (sym (b v m) ∙ z)))
+
+no_first : (g : ℕ → Option ℕ) (h : ℕ) → leaf_before g zero ≡ Some h → ⊥
+unfolding leaf_before
+no_first g h q = cc
+
+before_none : (g : ℕ → Option ℕ) (i : ℕ) → g i ≡ None → leaf_before g (suc i) ≡ leaf_before g i
+unfolding leaf_before
+before_none g i p = ap (λ x. or_earlier x (leaf_before g i)) p
+
+-- a leaf slot that begins no run has the hop of the leaf before it
+goes_on : (k : ℕ) (o : Option ℕ) → starts (Some k) o ≡ 0 → o ≡ Some k
+goes_on k None q = absurd (omega (arith, q))
+goes_on k (Some h) q = sym (ap Some (no_start k h q))
+
+-- a leaf slot before v from which on no leaf begins
+abbrev LastLeaf : ℕ → (ℕ → Option ℕ) → ℕ → ℕ → Type 0
+LastLeaf n g v h = (u : ℕ) × (u < v) × (g u ≡ Some h) × (rank_of n (u + 1) ≡ rank_of n v)
+
+last_step : (n : ℕ) (g : ℕ → Option ℕ) (v h : ℕ) (o : Option ℕ) → g v ≡ o → bit_at n v ≡ run_start g v → (leaf_before g v ≡ Some h → LastLeaf n g v h) → leaf_before g (suc v) ≡ Some h → LastLeaf n g (suc v) h
+last_step n g v h (Some k) is b earlier q = (v, omega arith, is ∙ (sym (first_leaf g k v is) ∙ q), ap (rank_of n) (let t : v + 1 ≡ suc v = omega arith in t))
+last_step n g v h None is b earlier q =
+    let r = earlier (sym (before_none g v is) ∙ q) in
+    let z : bit_at n v ≡ 0 = b ∙ ap (λ o. starts o (leaf_before g v)) is in
+    let more = rank_more n v in
+    let t : rank_of n (v + 1) ≡ rank_of n (suc v) = ap (rank_of n) (let w : v + 1 ≡ suc v = omega arith in w) in
+    (r.0, omega (arith, r.1), r.2, omega (arith, r.3, z, more, t))
+
+last_leaf : (n : ℕ) (g : ℕ → Option ℕ) (v h : ℕ) → ((x : ℕ) → x < v → bit_at n x ≡ run_start g x) → leaf_before g v ≡ Some h → LastLeaf n g v h
+last_leaf n g zero h b e = absurd (no_first g h e)
+last_leaf n g (suc v) h b e = last_step n g v h (g v) refl (b v (omega arith)) (last_leaf n g v h (λ x l. b x (omega arith))) e
 
 abbrev pub NodeDone : ℕ → ℕ → ℕ → (List Bool → ℕ) → State → State → ℕ → Type 0
 NodeDone vector base1 d f mid now u = (k : ℕ) → d - 6 ≤ 6 * k → StandsIn k now.nodes (since mid.N now.N) now.leaves (since mid.L now.L) (node_at now.nodes (base1 + rank_of vector (u + 1) - 1)) (d - 6) (slot d f u)
@@ -374,6 +404,23 @@ pub at_end_stands : (vector leafvec base0 base1 d : ℕ) (f : List Bool → ℕ)
 at_end_stands vector leafvec base0 base1 d f old mid now v l m none can g =
     let e : v ≡ 64 = omega arith in
     finish (record { vector = vector; leafvec = leafvec; base0 = base0; base1 = base1 }) d f old mid now none can (subst (λ (x : ℕ). Going vector leafvec base0 base1 d f old mid now x) e g)
+
+set_kept : {X : Type 0} (xs : List X) (i : ℕ) (x d : X) → i < length xs → get_or xs i d ≡ x → set xs i x ≡ xs
+set_kept [] i x d l e = absurd (omega arith)
+set_kept (y ∷ xs) zero x d l e = ap (λ z. z ∷ xs) (sym e)
+set_kept (y ∷ xs) (suc i) x d l e = ap (λ r. y ∷ r) (set_kept xs i x d (omega arith) e)
+
+-- a slot that goes on with the leaf before it: the leaf is there
+pub leaf_kept : (vector leafvec base0 base1 d : ℕ) (f : List Bool → ℕ) (old mid now to : State) (v h : ℕ) → v < 64 → Some h ≡ slots d f v → IsCanonical vector leafvec (slots d f) → bit_at leafvec v ≡ 0 → Going vector leafvec base0 base1 d f old mid now v → to.nodes ≡ now.nodes → to.N ≡ now.N → to.leaves ≡ now.leaves → to.L ≡ now.L → Going vector leafvec base0 base1 d f old mid to (v + 1)
+leaf_kept vector leafvec base0 base1 d f old mid now to v h l some can z g a b c x =
+    let before : leaf_before (slots d f) v ≡ Some h = goes_on h (leaf_before (slots d f) v) (ap (λ o. starts o (leaf_before (slots d f) v)) some ∙ (sym (can.leaves v l) ∙ z)) in
+    let r = last_leaf leafvec (slots d f) v h (λ y m. can.leaves y (omega (arith, m, l))) before in
+    let more = rank_more leafvec v in
+    let same : rank_of leafvec (r.0 + 1) ≡ rank_of leafvec (v + 1) = omega (arith, r.3, z, more) in
+    let p = leaf_place vector leafvec base0 d f old.L mid.L (length now.leaves) v h l can (sym some) (fewer g.leaf_block) in
+    let there : LeafDone leafvec base0 now r.0 h = subst (λ (o : Option ℕ). BySlot o (NodeDone vector base1 d f mid now r.0) (LeafDone leafvec base0 now r.0)) r.2 (g.done r.0 r.1) in
+    let is : get_or now.leaves (base0 + rank_of leafvec (v + 1) - 1) 0 ≡ h = ap (λ q. get_or now.leaves (base0 + q - 1) 0) (sym same) ∙ there in
+    leaf_written vector leafvec base0 base1 d f old mid now to v h (rank_of leafvec (v + 1)) l some can refl g a b (c ∙ sym (set_kept now.leaves (base0 + rank_of leafvec (v + 1) - 1) h 0 p.2 is)) x
 
 -- before the first slot
 pub going_start : (vector leafvec base0 base1 d : ℕ) (f : List Bool → ℕ) (n0 n1 : List Node) (l0 l1 : List ℕ) (oN mN oL mL : ℕ → Bool) {c r : ℕ} → c ≡ children (slots d f) → r ≡ runs (slots d f) → TakesPlaces base1 (up c) oN mN (length n1) → TakesPlaces base0 (up r) oL mL (length l1) → ((i : ℕ) → oN i ≡ true → mN i ≡ true) → ((i : ℕ) → oL i ≡ true → mL i ≡ true) → n1 ≡ n0 → l1 ≡ l0 →

@@ -65,7 +65,11 @@ pub(crate) fn build_node<R: Region>(
     let base0 = take_places(leaves, made.leaves)?;
     for slot in 0..64u8 {
         match kinds[usize::from(slot)] {
-            Some(hop) => put(leaves, base0 + rank(made.leafvec, slot) - 1, hop),
+            Some(hop) => {
+                if (made.leafvec >> slot) & 1 == 1 {
+                    put(leaves, base0 + rank(made.leafvec, slot) - 1, hop);
+                }
+            }
             None => {
                 let child = descend(region, slot, 6);
                 let node = build_node(&child, nodes, leaves)?;

@@ -5,14 +5,15 @@ use Rattle.poptrie_build.specs.Need.{children}
 use Rattle.poptrie_build.specs.Making.{slot_kind}
 use Rattle.poptrie_build.specs.Stands.{blank}
 use Rattle.poptrie_build.proofs.Directing.{never, keeps_all, keeps_both}
-use Rattle.poptrie_build.proofs.Going.{child_none, child_less, leaf_room, node_room, leaf_written, node_written, at_end_stands, going_start, state}
+use Rattle.poptrie_build.proofs.Going.{child_none, child_less, leaf_room, node_room, leaf_written, leaf_kept, node_written, at_end_stands, going_start, state}
 use Rattle.poptrie_build.proofs.Walk.{rank_more}
 use Rattle.poptrie_build.proofs.Parted.{parted_start, parted_leaf, parted_node, nodes_parted, leaves_parted, rank_fits}
 use Rattle.poptrie_build.proofs.Counting.{Counted, canonical_same, children_same, runs_same, count_start, count_leaf, count_node, nodes_end, leaves_end, nodes_refused, leaves_refused, child_fits, kinds_agree, block_small, descended_slot, six_bits}
 use Rattle.buddy_arena.specs.Space.{Space, IsSized}
+use Rattle.buddy_arena.proofs.Calls.{bit_not_there}
 use Rattle.buddy_arena.specs.Places.{is_out}
 use Rattle.poptrie_build.specs.declared.node.Node.{Node}
-use Rattle.poptrie_build.proofs.building.+build_node.Goals.{in-Some, in-None+in_ok-node-in-None}
+use Rattle.poptrie_build.proofs.building.+build_node.Goals.{in-Some+then-made-slot-eq1, in-Some+else-made-slot-eq1, in-None+in_ok-node-in-None}
 use Rattle.poptrie_build.proofs.building.+build_node.Goals as goal
 
 pub returns-in_err-base1-clause-fits : goal.returns-in_err-base1-clause-fits
@@ -150,13 +151,21 @@ loop-slot-preserved g t c =
     let a = kinds_agree (g.R.Region.bits c.args.region.now) (g.R.Region.answers c.args.region.now) c.ask.new.slots c.ask.ensures in
     let can = canonical_same c.make_vectors-made.result.vector c.make_vectors-made.result.leafvec (slot_kind c.ask.new.slots) (slots (g.R.Region.bits c.args.region.now) (g.R.Region.answers c.args.region.now)) a c.make_vectors-made.ensures.canonical in
     elim c.match-kinds-from.branch [
-      | in-Some w ↦
+      | in-Some+then-made-slot-eq1 w ↦
           let some : Some w.in-Some.hop ≡ slots (g.R.Region.bits c.args.region.now) (g.R.Region.answers c.args.region.now) c.loop-slot.slot = sym w.in-Some.is ∙ (ap (slot_kind c.ask.new.slots) c.from.ensures ∙ a c.loop-slot.slot c.loop-slot-test.true) in (
             leaf_written _ _ _ _ _ _ _ _ _ _ _ w.in-Some.hop w.rank.result c.loop-slot-test.true some can w.rank.ensures c.loop-slot.invariant.0 (ap (λ (s : Space Node). s.cells) w.nodes-is) (ap (λ (s : Space Node). is_out s.free) w.nodes-is)
                 (ap (λ (s : Space ℕ). s.cells) w.leaves-is ∙ w.put.ensures.cells) (ap (λ (s : Space ℕ). is_out s.free) w.leaves-is ∙ ap is_out w.put.ensures.free),
             count_leaf _ _ _ _ _ _ _ _ _ w.in-Some.hop (sym some) w.nodes-is (ap (λ (s : Space ℕ). s.free) w.leaves-is ∙ w.put.ensures.free) (ap (λ (s : Space ℕ). s.order) w.leaves-is ∙ w.put.ensures.order) (ap (λ (s : Space ℕ). s.fill) w.leaves-is ∙ w.put.ensures.fill)
                 (subst (λ (s : Space ℕ). IsSized s) (sym w.leaves-is) w.put.ensures.sized) c.loop-slot.invariant.1,
             parted_leaf _ _ _ _ _ c.loop-slot.slot (can.nodes c.loop-slot.slot c.loop-slot-test.true ∙ ap mixed (sym some)) (ap (λ (s : Space Node). s.cells) w.nodes-is) (ap (λ (s : Space Node). is_out s.free) w.nodes-is) (ap (λ (s : Space ℕ). is_out s.free) w.leaves-is ∙ ap is_out w.put.ensures.free) c.loop-slot.invariant.2,
+          )
+      | in-Some+else-made-slot-eq1 w ↦
+          let some : Some w.in-Some.hop ≡ slots (g.R.Region.bits c.args.region.now) (g.R.Region.answers c.args.region.now) c.loop-slot.slot = sym w.in-Some.is ∙ (ap (slot_kind c.ask.new.slots) c.from.ensures ∙ a c.loop-slot.slot c.loop-slot-test.true) in (
+            leaf_kept _ _ _ _ _ _ _ _ _ _ _ w.in-Some.hop c.loop-slot-test.true some can (bit_not_there c.make_vectors-made.result.leafvec c.loop-slot.slot w.if-made-slot-eq1.false) c.loop-slot.invariant.0 (ap (λ (s : Space Node). s.cells) w.nodes-is) (ap (λ (s : Space Node). is_out s.free) w.nodes-is)
+                (ap (λ (s : Space ℕ). s.cells) w.leaves-is) (ap (λ (s : Space ℕ). is_out s.free) w.leaves-is),
+            count_leaf _ _ _ _ _ _ _ _ _ w.in-Some.hop (sym some) w.nodes-is (ap (λ (s : Space ℕ). s.free) w.leaves-is) (ap (λ (s : Space ℕ). s.order) w.leaves-is) (ap (λ (s : Space ℕ). s.fill) w.leaves-is)
+                (subst (λ (s : Space ℕ). IsSized s) (sym w.leaves-is) c.loop-slot.invariant.1.leaves_sized) c.loop-slot.invariant.1,
+            parted_leaf _ _ _ _ _ c.loop-slot.slot (can.nodes c.loop-slot.slot c.loop-slot-test.true ∙ ap mixed (sym some)) (ap (λ (s : Space Node). s.cells) w.nodes-is) (ap (λ (s : Space Node). is_out s.free) w.nodes-is) (ap (λ (s : Space ℕ). is_out s.free) w.leaves-is) c.loop-slot.invariant.2,
           )
       | in-None+in_ok-node-in-None w ↦
           let none : None ≡ slots (g.R.Region.bits c.args.region.now) (g.R.Region.answers c.args.region.now) c.loop-slot.slot = sym w.in-None.is ∙ (ap (slot_kind c.ask.new.slots) c.from.ensures ∙ a c.loop-slot.slot c.loop-slot-test.true) in
