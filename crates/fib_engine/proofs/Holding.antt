@@ -32,6 +32,22 @@ use Rattle.fib_engine.specs.Tables.{only}
 pub only_placed : (f : Family) (E : Entries) → InPlace E → InPlace (only f E)
 only_placed f E e = (all_filter (λ d. same_family f d.0.family) IsPrefix E e.0, sorted_filter prefix_cmp (λ d. same_family f d.0.family) E e.1)
 
+pub only_again : (f : Family) (E : Entries) → only f (only f E) ≡ only f E
+only_again f [] = refl
+only_again f (e ∷ E) = by_test (same_family f e.0.family) refl (only_again f E)
+  where
+    by_test : (b : Bool) → same_family f e.0.family ≡ b → only f (only f E) ≡ only f E → only f (cond b (e ∷ only f E) (only f E)) ≡ cond b (e ∷ only f E) (only f E)
+    by_test true t more = ap (λ b. cond b (e ∷ only f (only f E)) (only f (only f E))) t ∙ ap (λ (L : Entries). e ∷ L) more
+    by_test false t more = more
+
+pub all_only : (P : Prefix × ℕ → Type 0) (f : Family) (E : Entries) → AllByRecursion P E → AllByRecursion P (only f E)
+all_only P f [] a = tt
+all_only P f (e ∷ E) a = by_test (same_family f e.0.family) (all_only P f E a.1)
+  where
+    by_test : (b : Bool) → AllByRecursion P (only f E) → AllByRecursion P (cond b (e ∷ only f E) (only f E))
+    by_test true more = (a.0, more)
+    by_test false more = more
+
 pub of_only : (f : Family) (E : Entries) → of_family f (only f E) ≡ of_family f E
 of_only f [] = refl
 of_only f (e ∷ E) = by_test (same_family f e.0.family) refl (of_only f E)

@@ -2,6 +2,7 @@
 
 ghost use Rattle.std.specs.Prelude.{◌≡◌, ◌<◌, ◌+◌, ◌^◌, ◌↔◌, [], ◌∷◌, ◌++◌, List, length, map, true, false, Some, None, IfOk, OnOk, OnErr, IsErrOf};
 ghost use Rattle.table_model.specs.Address.{Prefix as model_prefix};
+ghost use Rattle.table_model.specs.declared.family.Family.TheVariants.{V4, V6};
 ghost use Rattle.table_model.specs.Both.{aggregate_in_both};
 ghost use Rattle.cert_model.specs.Rows.{certificate_of};
 ghost use Rattle.route_model.specs.Events.{Elem as model_elem};
@@ -17,7 +18,7 @@ ghost use Rattle.route_tries.specs.Sizes.{AreFew, needs_of, shortage, sizes_as};
 ghost use Rattle.route_tries.specs.Tries.{AreTriesOf};
 ghost use Rattle.route_tries.specs.declared.sizes.TrieFull.{TrieFull};
 ghost use Rattle.fib_engine.specs.Held.{engine_routes, routes_told};
-ghost use Rattle.fib_engine.specs.Tables.{AreOfRoutes};
+ghost use Rattle.fib_engine.specs.Tables.{AreOfRoutes, only};
 ghost use Rattle.fib_engine.specs.Turns.{AreTurnsOf};
 ghost use Rattle.fib_engine.specs.Stands.{EndsLoad, IsLoading, IsShortFor, IsTooMany, Loads, EngineStands, TakesElem, changes_of, first_of, routes_after};
 
@@ -25,12 +26,13 @@ use crate::error::EngineError;
 use crate::final_fib::FinalFib;
 use crate::numbers::{number_hop, number_next, number_put, number_route};
 use crate::parts::Parts;
+use crate::route_source::RouteSource;
 use crate::staged::Staged;
 use crate::tables::{EventChanges, Tables};
 use crate::turns::Turns;
 use fib_prefix::{Addr, Elem, Entry, Event, Family, HopTable, Prefix, Via};
 use ortc::Fresh;
-use route_choice::Candidates;
+use route_choice::{Candidates, FamilyRoutes};
 use route_tries::{FamilyNeeds, Sizes, Tries, TriesError};
 use std::alloc::{AllocError, Global};
 use std::marker::Model;
@@ -222,8 +224,40 @@ impl Engine {
         self.parts.candidates.route_entries(&self.parts.hops)
     }
 
-    /// The tables of the routes, before their first snapshot.
+    /// The tables of the routes, before their first snapshot. Where all candidates lie in the order of prefixes no list of the routes is
+    /// made.
     fn tables_of_routes(&self) -> Result<Tables, AllocError>
+        ensures { IfOk result (AreOfRoutes (engine_routes self.now)) }
+    {
+        let candidates = &self.parts.candidates;
+        let v4 = candidates.family_routes(Family::V4, &self.parts.hops);
+        let v6 = candidates.family_routes(Family::V6, &self.parts.hops);
+        if let (Some(v4), Some(v6)) = (v4, v6) {
+            let tables = self.tables_of_families(v4, v6)?;
+            return Ok(tables);
+        }
+        let tables = self.tables_of_list()?;
+        Ok(tables)
+    }
+
+    /// The tables of the routes of both families, as they come.
+    fn tables_of_families(
+        &self,
+        v4: FamilyRoutes<'_>,
+        v6: FamilyRoutes<'_>,
+    ) -> Result<Tables, AllocError>
+        requires v4 { v4 ≡ only V4 (engine_routes self.now) }
+        requires v6 { v6 ≡ only V6 (engine_routes self.now) }
+        ensures { IfOk result (AreOfRoutes (engine_routes self.now)) }
+    {
+        let mut v4 = RouteSource(v4);
+        let mut v6 = RouteSource(v6);
+        let tables = Tables::load_from(self.parts.alloc, &mut v4, &mut v6)?;
+        Ok(tables)
+    }
+
+    /// The tables of the routes, from a list of them.
+    fn tables_of_list(&self) -> Result<Tables, AllocError>
         ensures { IfOk result (AreOfRoutes (engine_routes self.now)) }
     {
         let tables = Tables::load(self.parts.alloc, &self.routes()?)?;

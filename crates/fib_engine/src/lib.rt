@@ -23,6 +23,7 @@ mod final_fib;
 mod fitting;
 mod numbers;
 mod parts;
+mod route_source;
 mod staged;
 mod tables;
 mod turns;

@@ -2,6 +2,9 @@
 
 ghost use Rattle.std.specs.Prelude.{◌≡◌, ◌≤◌, [], ◌∷◌, ◌++◌, IfOk, OnOk, OnErr, length, map};
 ghost use Rattle.std.specs.List.{AllByRecursion};
+ghost use Rattle.std.specs.Map.{keys_of};
+ghost use Rattle.table_model.specs.Address.{IsPrefix};
+ghost use Rattle.table_model.specs.Entries.{in_order};
 ghost use Rattle.table_model.specs.declared.family.Family.TheVariants.{V4, V6};
 ghost use Rattle.table_model.specs.Both.{aggregate_in};
 ghost use Rattle.cert_model.specs.Rows.{family_rows};
@@ -10,13 +13,13 @@ ghost use Rattle.fib_delta.specs.Views.{change_as};
 ghost use Rattle.cert_model.specs.Views.{row_as};
 ghost use Rattle.smalta_keep.specs.Views.{moved_of};
 ghost use Rattle.route_tries.specs.Sizes.{told_needs};
-ghost use Rattle.fib_engine.specs.Tables.{AreAlike, AreBoth, AreTold, ArePlanned, ArePut, AreUndone, Given, both_firsts, gathered, needs_in, route_in, labels_of, table_of, both_routes, KeepRoutes, KeepTables, MadeBy};
+ghost use Rattle.fib_engine.specs.Tables.{AreAlike, AreBoth, AreTold, ArePlanned, ArePut, AreUndone, Given, both_firsts, gathered, needs_in, route_in, labels_of, table_of, both_routes, only, KeepRoutes, KeepTables, MadeBy};
 
 use cert_model::RowSink;
 use fib_addr::EntrySink;
 use fib_delta::Change;
 use fib_prefix::{Entry, Family, Hop, Prefix};
-use orig_tree::Tree;
+use orig_tree::{EntrySource, Tree};
 use ortc::Fresh;
 use route_tries::FamilyNeeds;
 use smalta_keep::{Keep, Moved, Repair};
@@ -121,6 +124,30 @@ impl Tables {
     {
         let v4 = Keep::load(alloc, Family::V4, routes)?;
         let v6 = Keep::load(alloc, Family::V6, routes)?;
+        Ok(Tables { v4, v6 })
+    }
+
+    /// Empty tables of the routes that two sources give, one of each family, of which none is that of no hop. No list of them is made.
+    ///
+    /// # Errors
+    ///
+    /// No memory.
+    pub fn load_from<S: EntrySource>(
+        alloc: Global,
+        v4: &mut S,
+        v6: &mut S,
+    ) -> Result<Tables, AllocError>
+        requires prefixes { AllByRecursion IsPrefix (keys_of (S.left v4.old))
+            × AllByRecursion IsPrefix (keys_of (S.left v6.old)) }
+        requires hops { AllByRecursion (λ r. 1 ≤ r.1) (S.left v4.old)
+            × AllByRecursion (λ r. 1 ≤ r.1) (S.left v6.old) }
+        ensures both { IfOk result AreBoth }
+        ensures v4 { IfOk result (λ t. t.v4.routes ≡ in_order (only V4 (S.left v4.old))) }
+        ensures v6 { IfOk result (λ t. t.v6.routes ≡ in_order (only V6 (S.left v6.old))) }
+        ensures empty { IfOk result (λ t. (t.v4.entries ≡ []) × (t.v6.entries ≡ [])) }
+    {
+        let v4 = Keep::load_from(alloc, Family::V4, v4)?;
+        let v6 = Keep::load_from(alloc, Family::V6, v6)?;
         Ok(Tables { v4, v6 })
     }
 

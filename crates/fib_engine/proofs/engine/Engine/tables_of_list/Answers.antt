@@ -10,7 +10,7 @@ use Rattle.fib_engine.specs.Held.{EngineState, engine_routes}
 use Rattle.fib_engine.specs.Tables.{only}
 use Rattle.fib_engine.proofs.Numbering.{numbers_least}
 use Rattle.fib_engine.proofs.Taking.{put_in_order, routes_have, routes_placed}
-use Rattle.fib_engine.proofs.engine.Engine.tables_of_routes.Goals as goal
+use Rattle.fib_engine.proofs.engine.Engine.tables_of_list.Goals as goal
 
 pub load-requires : goal.load-requires
 load-requires c =
