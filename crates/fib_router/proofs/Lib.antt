@@ -5,3 +5,4 @@ pub mod Readying
 pub mod Routing
 pub mod Looking
 pub mod Handing
+pub mod Stepping

@@ -22,7 +22,7 @@ use Rattle.fib_engine.specs.Staged.{routes_by}
 use Rattle.fib_engine.specs.Stands.{TakesElem}
 use Rattle.fib_engine.specs.Tables.{only}
 use Rattle.fib_router.specs.Errors.{IsHeldUp, IsSaidOf}
-use Rattle.fib_router.specs.Lives.{AreLives, HasRoomIn, IsFilledWith, IsLiveOf, IsPendingOf, live_of}
+use Rattle.fib_router.specs.Lives.{AreLives, HasRoomIn, IsFilledWith, IsLiveOf, IsNewLive, IsPendingOf, live_of}
 use Rattle.fib_router.specs.declared.error.NotBegun.{NotBegun}
 use Rattle.fib_router.specs.declared.error.NotBegun.TheVariants as error
 use Rattle.fib_router.specs.declared.lives.Lives as code_lives
@@ -38,6 +38,14 @@ places_of f g z y E R sizes fits fam is =
 pub filled_in : (f g : Family) (z : code_sizes.Sizes) (held : EngineState) (R : Entries) (l : Living) → sizes_as z ≡ held.sizes → g ≡ f → R ≡ only f (engine_routes held) → IsFilledWith g z R l → IsLiveOf f held None l
 filled_in f g z held R l sizes fam is filled =
     filled_of f z held R l (subst (λ (h : Family). IsFilledWith h z R l) fam filled) (ap (all_answers f) is ∙ answers_only f (engine_routes held)) sizes
+
+pub new_in : (f g : Family) (z : code_sizes.Sizes) (held : EngineState) (R : Entries) (l : Living) → sizes_as z ≡ held.sizes → g ≡ f → R ≡ only f (engine_routes held) → IsFilledWith g z R l → IsNewLive f held l
+new_in f g z held R l sizes fam is filled = record {
+  live = filled_in f g z held R l sizes fam is filled;
+  few = subst (λ (y : Sizes). y.direct ≤ 18) sizes filled.few;
+  time = filled.time;
+  past = filled.past;
+}
 
 -- ---- what the region of a tree answers
 pub region_is : (f g h : Family) (R E : Entries) (a : List Bool → ℕ) → a ≡ all_answers g R → g ≡ f → R ≡ only f E → h ≡ f → a ≡ all_answers h E

@@ -1,13 +1,19 @@
 -- The live tries of both families beside an engine's routes.
-use Rattle.std.specs.Prelude.{◌≡◌, ◌≤◌, ◌<◌, ℕ, ◌+◌, ◌^◌, false, Option, Some, None}
+use Rattle.std.specs.Prelude.{◌≡◌, ◌≤◌, ◌<◌, ℕ, suc, ◌+◌, ◌^◌, List, [], ◌∷◌, ◌++◌, Bool, true, false, Option, Some, None}
 use Rattle.table_model.specs.declared.family.Family.{Family}
 use Rattle.table_model.specs.declared.family.Family.TheVariants.{V4, V6}
 use Rattle.table_model.specs.Entries.{Entries}
 use Rattle.route_model.specs.Events.{Elem}
 use Rattle.fib_addr.specs.Answers.{all_answers}
 use Rattle.poptrie_build.specs.Tries.{node_need, leaf_need}
-use Rattle.poptrie_update.specs.Lives.{Living, Shows, is_pending}
+use Rattle.poptrie_set.specs.Prepares.{StoresJust}
+use Rattle.poptrie_set.specs.declared.trie_set.Oldest.{Oldest}
+use Rattle.poptrie_update.specs.Fits.{Fits, IsOldest, Open}
+use Rattle.poptrie_update.specs.Lives.{HasShapeOf, KeepsStores, Living, Past, Shows, is_pending, made_of, stores_left}
 use Rattle.poptrie_update.specs.Pendings.{IsTokenOf}
+use Rattle.poptrie_update.specs.Prepares.{IsCancelled}
+use Rattle.poptrie_update.specs.declared.live.Other.{Other}
+use Rattle.poptrie_update.specs.declared.live.Other.TheVariants as other
 use Rattle.poptrie_update.specs.declared.pending.Pending.{Pending}
 use Rattle.route_tries.specs.declared.sizes.Sizes as code_sizes
 use Rattle.fib_engine.specs.Held.{EngineState, engine_routes}
@@ -25,6 +31,8 @@ HasRoomIn f z L = (node_need f z.direct L ≤ 2 ^ z.nodes) × (leaf_need f z.dir
 
 -- a live trie of these sizes that was filled with these entries
 pub record IsFilledWith (f : Family) (z : code_sizes.Sizes) (L : Entries) (l : Living) : Type 0 where
+  pub few : z.direct ≤ 18
+  pub past : Past l [] []
   pub family : l.selected.family ≡ f
   pub direct : l.selected.direct_bits ≡ z.direct
   pub nodes : l.selected.nodes.space.order ≡ z.nodes
@@ -53,3 +61,70 @@ AreLives held begun t = IsLiveOf V4 held begun t.v4 × IsLiveOf V6 held begun t.
 abbrev pub IsPendingOf : Family → Pending → code_lives.Lives → Type 0
 IsPendingOf V4 p t = IsTokenOf p t.v4 × (is_pending t.v6 ≡ false)
 IsPendingOf V6 p t = IsTokenOf p t.v6 × (is_pending t.v4 ≡ false)
+
+-- before the first event
+pub record IsNewLive (f : Family) (held : EngineState) (l : Living) : Type 0 where
+  pub live : IsLiveOf f held None l
+  pub few : held.sizes.direct ≤ 18
+  pub time : l.selected.time ≡ 0
+  pub past : Past l [] []
+
+abbrev pub AreNewLives : EngineState → code_lives.Lives → Type 0
+AreNewLives held t = IsNewLive V4 held t.v4 × IsNewLive V6 held t.v6
+
+-- ---- a family's live trie through an event
+-- What stays of it where its update is made ready, or isn't, with its oldest open lookup: its sizes and its time, what the open lookups
+-- read, and what was replaced before.
+pub record Readies (who : Oldest) (l r : Living) : Type 0 where
+  pub shape : HasShapeOf l r
+  pub time : r.selected.time ≡ l.selected.time
+  pub fits : (os : List Open) → IsOldest who os → Fits l os → Fits r os
+  pub past : (ns ls : List ℕ) → Past l ns ls → Past r ns ls
+
+-- the words that are to be stored are just those of the slots at which an address gets another answer; the selector is stored for all
+abbrev pub StoresJustBy : Other → Living → Entries → Entries → Type 0
+StoresJustBy other.Free l L M = StoresJust l.selected.family l.selected.direct_bits L M l.selected.stores
+StoresJustBy (other.Retired end) l L M = StoresJust l.selected.family l.selected.direct_bits L M l.selected.stores
+StoresJustBy other.Built l L M = Unit {0}
+StoresJustBy other.Replaced l L M = Unit {0}
+
+-- its update is ready, from the first entries to the second, and no store was made
+pub record IsReadyFor (L M : Entries) (l : Living) : Type 0 where
+  pub pending : is_pending l ≡ true
+  pub made : made_of l ≡ 0
+  pub shows : Shows l L M
+  pub stores : StoresJustBy l.state l L M
+
+-- what stays where a store is made, or the update is forgotten
+pub record CarriesOn (l r : Living) : Type 0 where
+  pub shape : HasShapeOf l r
+  pub time : r.selected.time ≡ l.selected.time
+  pub fits : (os : List Open) → Fits l os → Fits r os
+  pub past : (ns ls : List ℕ) → Past l ns ls → Past r ns ls
+
+-- the next store is made, or none is left
+pub record StoresNext (done : Bool) (l r : Living) : Type 0 where
+  pub carries : CarriesOn l r
+  pub pending : is_pending r ≡ true
+  pub kept : KeepsStores l r
+  pub shows : (L M : Entries) → Shows l L M → Shows r L M
+  pub made : done ≡ true → (0 < stores_left l) × (made_of r ≡ suc (made_of l))
+  pub none : done ≡ false → (stores_left l ≡ 0) × (r ≡ l)
+
+-- its update is over: what the first entries needed is what was replaced last
+pub record GoesBy (l r : Living) : Type 0 where
+  pub shape : HasShapeOf l r
+  pub time : r.selected.time ≡ suc l.selected.time
+  pub all : stores_left l ≡ 0
+  pub quiet : is_pending r ≡ false
+  pub fits : (os : List Open) → Fits l os → Fits r os
+  pub shows : (L M : Entries) → Shows l L M → Shows r M M
+  pub past : (L M : Entries) (ns ls : List ℕ) → Shows l L M → Past l ns ls → Past r (ns ++ node_need l.selected.family l.selected.direct_bits L ∷ []) (ls ++ leaf_need l.selected.family l.selected.direct_bits L ∷ [])
+
+-- its update is forgotten
+pub record IsForgotten (l r : Living) : Type 0 where
+  pub carries : CarriesOn l r
+  pub none : made_of l ≡ 0
+  pub quiet : is_pending r ≡ false
+  pub shows : (L M : Entries) → Shows l L M → Shows r L L
+  pub undone : IsCancelled l r

@@ -7,6 +7,7 @@ use Rattle.route_model.specs.Events.{Elem}
 use Rattle.fib_addr.specs.declared.addr.Addr.{Addr}
 use Rattle.fib_addr.specs.declared.entry.Hop as code_hop
 use Rattle.poptrie_update.specs.Lives.{is_pending, made_of, stores_left}
+use Rattle.poptrie_update.specs.Prepares.{IsAtRest}
 use Rattle.poptrie_update.specs.Reads.{published_entries}
 use Rattle.poptrie_update.specs.declared.pending.Pending.{Pending}
 use Rattle.fib_engine.specs.Held.{EngineState, engine_routes}
@@ -73,3 +74,10 @@ IsPinnedFor who e r (error.Pinned need cursor arena largest) =
     × (changed_at r.held.candidates e ≡ Some p)
     × IsHeldUp who (error.Pinned need cursor arena largest) (live_of p.family r.lives) (engine_routes r.held) (routes_after e r.held)
 IsPinnedFor who e r error.NoMemory = Unit {0}
+
+-- then the trie was at rest
+abbrev pub IsRestingFor : Elem → Routing → NotBegun → Type 0
+IsRestingFor e r error.HopsFull = Unit {0}
+IsRestingFor e r (error.TrieFull t) = Unit {0}
+IsRestingFor e r (error.Pinned need cursor arena largest) = (p : Prefix) → changed_at r.held.candidates e ≡ Some p → IsAtRest (live_of p.family r.lives)
+IsRestingFor e r error.NoMemory = Unit {0}

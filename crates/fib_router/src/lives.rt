@@ -6,9 +6,10 @@ ghost use Rattle.table_model.specs.Address.{same_family};
 ghost use Rattle.table_model.specs.declared.family.Family.{Family};
 ghost use Rattle.fib_addr.specs.Views.{prefix_as};
 ghost use Rattle.fib_addr.specs.Answers.{all_answers};
+ghost use Rattle.table_model.specs.Entries.{Entries};
 ghost use Rattle.poptrie_update.specs.Lives.{Shows, HasShapeOf, is_pending, made_of, stores_left};
 ghost use Rattle.poptrie_update.specs.Pendings.{IsTokenOf};
-ghost use Rattle.poptrie_update.specs.Prepares.{IsCancelled};
+ghost use Rattle.poptrie_update.specs.Prepares.{IsAtRest, IsCancelled};
 ghost use Rattle.route_tries.specs.Parts.{AreAlikeOutside};
 ghost use Rattle.route_tries.specs.Sizes.{shortage};
 ghost use Rattle.fib_engine.specs.Held.{EngineState, engine_routes};
@@ -16,7 +17,7 @@ ghost use Rattle.fib_engine.specs.Staged.{routes_planned};
 ghost use Rattle.fib_engine.specs.Stands.{TakesElem};
 ghost use Rattle.poptrie_build.specs.declared.filling.TrieFull.{TrieFull as TooFull};
 ghost use Rattle.fib_router.specs.Errors.{IsHeldUp, IsSaidOf};
-ghost use Rattle.fib_router.specs.Lives.{AreLives, HasRoomIn, IsFilledWith, IsLiveOf, IsPendingOf, live_of};
+ghost use Rattle.fib_router.specs.Lives.{AreLives, AreNewLives, GoesBy, HasRoomIn, IsFilledWith, IsForgotten, IsLiveOf, IsPendingOf, IsReadyFor, Readies, StoresJustBy, StoresNext, live_of};
 
 use crate::error::NotBegun;
 use fib_addr::{Family, Prefix};
@@ -95,6 +96,11 @@ fn ready(
         (engine_routes lower.now.held)) }
     ensures hindered { IfErr result (λ e. IsHeldUp oldest e live.old (engine_routes lower.now.held)
         (routes_planned lower.now)) }
+    ensures resting { IsAtRest live.old }
+    ensures readies { Readies oldest live.old live.new }
+    ensures stores { OnOk result (StoresJustBy live.new.state live.new
+        (engine_routes lower.now.held) (routes_planned lower.now)) }
+    ensures kept { OnErr result ((L M : Entries) → Shows live.old L M → Shows live.new L M) }
 {
     let region = RouteRegion::whole(lower.tree(prefix.family));
     match live.prepare(&region, prefix, oldest) {
@@ -111,7 +117,8 @@ impl Lives {
     /// No memory.
     pub(crate) fn new(alloc: Global, lower: &Staged) -> Result<Lives, AllocError>
         requires { lower.now.planned ≡ None }
-        ensures { IfOk result (AreLives lower.now.held None) }
+        ensures lives { IfOk result (AreLives lower.now.held None) }
+        ensures first { IfOk result (AreNewLives lower.now.held) }
     {
         // they have room, which its needs tell
         let _needs = lower.needs();
@@ -158,6 +165,15 @@ impl Lives {
         ensures hindered { IfErr result (λ e. IsHeldUp oldest e
             (live_of prefix.now.family self.old) (engine_routes lower.now.held)
             (routes_planned lower.now)) }
+        ensures resting { IsAtRest (live_of prefix.now.family self.old) }
+        ensures readies { Readies oldest (live_of prefix.now.family self.old)
+            (live_of prefix.now.family self.new) }
+        ensures ready { OnOk result (IsReadyFor (engine_routes lower.now.held)
+            (routes_planned lower.now) (live_of prefix.now.family self.new)) }
+        ensures kept { OnErr result ((L M : Entries) → Shows (live_of prefix.now.family self.old) L M
+            → Shows (live_of prefix.now.family self.new) L M) }
+        ensures other { (f : Family) → same_family prefix.now.family f ≡ false
+            → live_of f self.new ≡ live_of f self.old }
     {
         match prefix.family {
             Family::V4 => ready(lower, &mut self.v4, prefix, oldest),
@@ -175,6 +191,9 @@ impl Lives {
             ≡ stores_left (live_of family self.old) }
         ensures none { result ≡ false → (stores_left (live_of family self.old) ≡ 0)
             × (self.new ≡ self.old) }
+        ensures own { StoresNext result (live_of family self.old) (live_of family self.new) }
+        ensures other { (f : Family) → same_family family f ≡ false
+            → live_of f self.new ≡ live_of f self.old }
     {
         match family {
             Family::V4 => self.v4.store(pending),
@@ -195,6 +214,9 @@ impl Lives {
         ensures all { OnOk result (stores_left (live_of family self.old) ≡ 0) }
         ensures lives { OnOk result ((e : Elem) (old new : EngineState) → TakesElem e old new
             → AreLives old (Some e) self.old → AreLives new None self.new) }
+        ensures own { OnOk result (GoesBy (live_of family self.old) (live_of family self.new)) }
+        ensures other { (f : Family) → same_family family f ≡ false
+            → live_of f self.new ≡ live_of f self.old }
     {
         match family {
             Family::V4 => self.v4.end(pending),
@@ -216,6 +238,9 @@ impl Lives {
             (live_of family self.new)) }
         ensures lives { OnOk result ((held : EngineState) (e : Elem) → AreLives held (Some e) self.old
             → AreLives held None self.new) }
+        ensures own { OnOk result (IsForgotten (live_of family self.old) (live_of family self.new)) }
+        ensures other { (f : Family) → same_family family f ≡ false
+            → live_of f self.new ≡ live_of f self.old }
     {
         match family {
             Family::V4 => self.v4.cancel(pending),

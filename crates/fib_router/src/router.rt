@@ -1,9 +1,10 @@
 //! The engine with its live tries.
 
 ghost use Rattle.std.specs.Prelude.{◌≡◌, ◌<◌, ◌+◌, ◌^◌, ◌↔◌, ◌++◌, suc, [], ◌∷◌, List, Some, None, length, map, true, false, IfOk, IfErr, OnOk, OnErr, IsErrOf};
-ghost use Rattle.table_model.specs.Address.{Prefix as model_prefix};
+ghost use Rattle.table_model.specs.Address.{Prefix as model_prefix, same_family};
 ghost use Rattle.table_model.specs.Both.{aggregate_in_both};
-ghost use Rattle.table_model.specs.Entries.{match_in};
+ghost use Rattle.table_model.specs.declared.family.Family.{Family};
+ghost use Rattle.table_model.specs.Entries.{Entries, match_in};
 ghost use Rattle.cert_model.specs.Rows.{certificate_of};
 ghost use Rattle.cert_model.specs.Views.{row_as};
 ghost use Rattle.route_model.specs.Events.{Elem as model_elem};
@@ -13,15 +14,15 @@ ghost use Rattle.fib_addr.specs.Views.{addr_as, entry_as};
 ghost use Rattle.fib_prefix.specs.Views.{elem_as, event_as};
 ghost use Rattle.fib_delta.specs.Views.{change_as};
 ghost use Rattle.poptrie_build.specs.Tries.{visits_of};
-ghost use Rattle.poptrie_update.specs.Prepares.{IsCancelled};
+ghost use Rattle.poptrie_update.specs.Lives.{Shows, is_pending};
 ghost use Rattle.route_tries.specs.Sizes.{AreFew, needs_of, shortage};
 ghost use Rattle.route_tries.specs.declared.sizes.TrieFull.{TrieFull};
 ghost use Rattle.fib_engine.specs.Held.{engine_routes};
 ghost use Rattle.fib_engine.specs.Numbers.{brought_as, brought_by};
 ghost use Rattle.fib_engine.specs.Stands.{IsShortFor, IsTooMany, EngineStands, TakesElem, changes_of, first_of, routes_after};
 ghost use Rattle.fib_router.specs.Errors.{IsHeldUp};
-ghost use Rattle.fib_router.specs.Lives.{live_of};
-ghost use Rattle.fib_router.specs.Router.{IsBegunIn, IsPinnedFor, begun_elem, begun_hop, stores_left_of, stores_made_in, published_to};
+ghost use Rattle.fib_router.specs.Lives.{AreNewLives, GoesBy, IsForgotten, IsReadyFor, Readies, StoresNext, live_of};
+ghost use Rattle.fib_router.specs.Router.{IsBegunIn, IsPinnedFor, IsRestingFor, begun_elem, begun_hop, stores_left_of, stores_made_in, published_to};
 
 use crate::error::NotBegun;
 use crate::lives::Lives;
@@ -86,6 +87,7 @@ impl Router {
         requires { engine.loaded ≡ true }
         ensures held { IfOk result (λ r. r.held ≡ engine) }
         ensures rest { IfOk result (λ r. r.begun ≡ None) }
+        ensures lives { IfOk result (λ r. AreNewLives engine r.lives) }
     {
         let lower = engine.staged();
         let lives = Lives::new(alloc, &lower)?;
@@ -120,6 +122,21 @@ impl Router {
             → IsShortFor self.old.held (routes_after (elem_as elem.now) self.old.held) t }
         ensures pinned { IfErr result (IsPinnedFor oldest (elem_as elem.now) self.old) }
         ensures rest { OnErr result (self.new.begun ≡ None) }
+        ensures ready { OnOk result ((p : model_prefix)
+            → changed_at self.old.held.candidates (elem_as elem.now) ≡ Some p
+            → IsReadyFor (engine_routes self.old.held)
+            (routes_after (elem_as elem.now) self.old.held) (live_of p.family self.new.lives)) }
+        ensures readies { (f : Family) → Readies oldest (live_of f self.old.lives)
+            (live_of f self.new.lives) }
+        ensures other { (f : Family) → ((p : model_prefix)
+            → changed_at self.old.held.candidates (elem_as elem.now) ≡ Some p
+            → same_family p.family f ≡ false)
+            → live_of f self.new.lives ≡ live_of f self.old.lives }
+        ensures kept { OnErr result ((f : Family) (L M : Entries)
+            → Shows (live_of f self.old.lives) L M → Shows (live_of f self.new.lives) L M) }
+        ensures quiet { OnErr result ((f : Family)
+            → is_pending (live_of f self.new.lives) ≡ false) }
+        ensures resting { IfErr result (IsRestingFor (elem_as elem.now) self.old) }
     {
         let planned = self.lower.plan(elem)?;
         let Some((prefix, _hop)) = planned.route() else {
@@ -145,11 +162,16 @@ impl Router {
         requires { IsBegunIn begun.old self.old }
         ensures begun { IsBegunIn begun.new self.new }
         ensures elem { begun_elem begun.new ≡ begun_elem begun.old }
+        ensures brings { begun_hop begun.new ≡ begun_hop begun.old }
         ensures held { self.new.held ≡ self.old.held }
         ensures made { result ≡ true
             → suc (stores_left_of begun.new self.new) ≡ stores_left_of begun.old self.old }
         ensures none { result ≡ false → (stores_left_of begun.new self.new ≡ 0)
             × (self.new ≡ self.old) }
+        ensures own { (f : Family) → is_pending (live_of f self.old.lives) ≡ true
+            → StoresNext result (live_of f self.old.lives) (live_of f self.new.lives) }
+        ensures other { (f : Family) → is_pending (live_of f self.old.lives) ≡ false
+            → live_of f self.new.lives ≡ live_of f self.old.lives }
     {
         match &mut begun.pending {
             Some((family, pending)) => self.lives.store(*family, pending),
@@ -177,6 +199,10 @@ impl Router {
             → EngineStands load elems self.old.held
             → EngineStands load (elems ++ begun_elem begun ∷ []) self.new.held) }
         ensures fits { OnOk result (shortage self.new.held.sizes (engine_routes self.new.held) ≡ None) }
+        ensures own { OnOk result ((f : Family) → is_pending (live_of f self.old.lives) ≡ true
+            → GoesBy (live_of f self.old.lives) (live_of f self.new.lives)) }
+        ensures other { OnOk result ((f : Family) → is_pending (live_of f self.old.lives) ≡ false
+            → live_of f self.new.lives ≡ live_of f self.old.lives) }
     {
         let Begun { planned, pending } = begun;
         let Some((family, pending)) = pending else {
@@ -192,7 +218,7 @@ impl Router {
     }
 
     /// Makes the stores that are left of the event that is begun, and ends it.
-    fn finish(&mut self, begun: Begun) -> EventChanges
+    pub fn finish(&mut self, begun: Begun) -> EventChanges
         requires { IsBegunIn begun self.old }
         ensures rest { self.new.begun ≡ None }
         ensures takes { TakesElem (begun_elem begun) self.old.held self.new.held }
@@ -252,6 +278,10 @@ impl Router {
         ensures none { OnOk result (stores_made_in begun self.old ≡ 0) }
         ensures rest { OnOk result (self.new.begun ≡ None) }
         ensures held { OnOk result (self.new.held ≡ self.old.held) }
+        ensures own { OnOk result ((f : Family) → is_pending (live_of f self.old.lives) ≡ true
+            → IsForgotten (live_of f self.old.lives) (live_of f self.new.lives)) }
+        ensures other { OnOk result ((f : Family) → is_pending (live_of f self.old.lives) ≡ false
+            → live_of f self.new.lives ≡ live_of f self.old.lives) }
     {
         let Begun { planned, pending } = begun;
         let Some((family, pending)) = pending else {

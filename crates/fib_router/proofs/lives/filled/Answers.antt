@@ -1,4 +1,4 @@
-use Rattle.std.proofs.Common.{ap, sym, ◌∙◌}
+use Rattle.std.proofs.Common.{[], ap, sym, ◌∙◌}
 use Rattle.table_model.specs.declared.family.Family.{Family}
 use Rattle.fib_addr.specs.Answers.{all_answers}
 use Rattle.fib_router.proofs.Room.{not_too_much}
@@ -9,6 +9,8 @@ returns c =
     let fam = c.in_ok-live.ensures.family ∙ c.family.ensures.family in
     let shape = c.fill.ensures.shape in
     record {
+      few = c.args.sizes.now.few_direct;
+      past = c.fill.ensures.past [] [] c.in_ok-live.ensures.past;
       family = shape.0 ∙ fam;
       direct = shape.1 ∙ c.in_ok-live.ensures.direct;
       nodes = shape.2 ∙ c.in_ok-live.ensures.orders.0;

@@ -4,6 +4,7 @@ use Rattle.fib_addr.specs.Views.{prefix_as}
 use Rattle.fib_engine.specs.Held.{engine_routes}
 use Rattle.fib_engine.specs.Staged.{routes_planned}
 use Rattle.fib_router.proofs.Through.{agree_outside}
+use Rattle.fib_router.proofs.Stepping.{stores_by}
 use Rattle.fib_router.proofs.Readying.{fits_now, hindered_by, region_is}
 use Rattle.fib_router.proofs.lives.ready.Goals as goal
 
@@ -44,3 +45,17 @@ pub returns-in-Err-clause-still : goal.returns-in-Err-clause-still
 returns-in-Err-clause-still c =
     let L = engine_routes c.args.lower.now.held in
     c.in-Err.ensures.still L L c.requires.rest.shows
+
+pub returns-in-Ok-clause-stores : goal.returns-in-Ok-clause-stores
+returns-in-Ok-clause-stores c =
+    let l = c.args.lower.now in
+    let L = engine_routes l.held in
+    let M = routes_planned l in
+    let region = region_is c.args.prefix.now.family c.tree.result.now.family c.args.live.now.selected.family c.tree.result.now.routes M _ c.whole-region.ensures.answers c.tree.ensures.family c.tree.ensures.routes c.requires.rest.family in
+    stores_by c.in-Ok.pending.stores c.prepare.new.self L M c.in-Ok.ensures.token.0 (c.in-Ok.ensures.changes L M c.requires.rest.shows region (agree_outside (prefix_as c.args.prefix.now) L M c.requires.within))
+
+pub returns-in-Ok-clause-readies : goal.returns-in-Ok-clause-readies
+returns-in-Ok-clause-readies c = record { shape = c.prepare.ensures.shape; time = c.prepare.ensures.time; fits = c.prepare.ensures.fits; past = c.prepare.ensures.past }
+
+pub returns-in-Err-clause-readies : goal.returns-in-Err-clause-readies
+returns-in-Err-clause-readies c = record { shape = c.prepare.ensures.shape; time = c.prepare.ensures.time; fits = c.prepare.ensures.fits; past = c.prepare.ensures.past }

@@ -9,12 +9,20 @@ use Rattle.fib_prefix.specs.Views.{elem_as}
 use Rattle.fib_engine.specs.Held.{EngineState}
 use Rattle.fib_engine.specs.Staged.{Staging, planned_route}
 use Rattle.fib_engine.specs.Stands.{IsShortFor, IsTooMany, routes_after}
-use Rattle.fib_router.specs.Lives.{AreLives, live_of}
-use Rattle.fib_router.specs.Router.{IsPinnedFor, Routing}
+use Rattle.table_model.specs.Address.{same_family}
+use Rattle.table_model.specs.declared.family.Family.{Family}
+use Rattle.table_model.specs.Entries.{Entries}
+use Rattle.poptrie_update.specs.Lives.{Living, Shows, is_pending}
+use Rattle.fib_engine.specs.Held.{engine_routes}
+use Rattle.fib_engine.specs.Staged.{routes_planned, routes_by}
+use Rattle.fib_router.specs.declared.lives.Lives as code_lives
+use Rattle.fib_router.specs.Lives.{AreLives, IsReadyFor, Readies, live_of}
+use Rattle.fib_router.specs.Router.{IsPinnedFor, IsRestingFor, Routing}
 use Rattle.fib_router.specs.declared.error.NotBegun.{NotBegun}
 use Rattle.fib_router.specs.declared.router.Begun.{Begun}
 use Rattle.fib_router.proofs.Readying.{begun_both}
 use Rattle.fib_router.proofs.Routing.{err_same, fits_planned, full_said, hindered_not_full, hindered_not_hops, hindered_now, hops_said, not_pinned, pinned_by, routed_elsewhere, routed_nowhere, still_now, within_now}
+use Rattle.fib_router.proofs.Stepping.{each_by, not_resting, quiet_each, readies_self, resting_by, same_there}
 use Rattle.fib_router.proofs.router.Router.begin.Goals as goal
 
 pub prepare-requires-clause-rest : goal.prepare-requires-clause-rest
@@ -65,3 +73,66 @@ returns-in-Err-clause-pinned c =
     subst (λ (r : Routing). IsPinnedFor c.args.oldest e r c.in-Err.why) c.self.view_is
     (pinned_by c.args.oldest e old c.in-Err.why (prefix_as c.in-Some.prefix) (sym c.in_ok-planned.ensures.changed ∙ at)
     (hindered_now c.args.oldest c.in-Err.why (live_of c.in-Some.prefix.family t.lives) t.lower.held c.plan.new.self e c.plan.ensures.held c.in_ok-planned.ensures.planned c.in-Err.ensures.hindered))
+
+pub returns-in-Ok-clause-ready : goal.returns-in-Ok-clause-ready
+returns-in-Ok-clause-ready c = λ p is.
+    let t = c.self.inside in
+    let e = elem_as c.args.elem.now in
+    let old : Routing = record { held = t.lower.held; begun = t.lower.planned; lives = t.lives } in
+    let at = sym c.in_ok-planned.ensures.changed ∙ ap (option_map (λ r. prefix_as r.0)) (sym c.route.ensures ∙ c.in-Some.is) in
+    let q = c.plan.new.self in
+    let now : changed_at old.held.candidates e ≡ Some p = ap (λ (r : Routing). changed_at r.held.candidates e) c.self.view_is ∙ is in
+    let there = same_there e old (prefix_as c.in-Some.prefix) p at now in
+    subst (λ (r : Routing). IsReadyFor (engine_routes r.held) (routes_after e r.held) (live_of p.family c.prepare.new.self)) c.self.view_is
+    (subst (λ (x : Prefix). IsReadyFor (engine_routes old.held) (routes_after e old.held) (live_of x.family c.prepare.new.self)) (sym there)
+    (subst (λ (h : EngineState). IsReadyFor (engine_routes h) (routes_after e h) (live_of c.in-Some.prefix.family c.prepare.new.self)) c.plan.ensures.held
+    (subst (λ (o : Option Elem). IsReadyFor (engine_routes q.held) (routes_by o q.held) (live_of c.in-Some.prefix.family c.prepare.new.self)) c.in_ok-planned.ensures.planned c.in-Ok.ensures.ready)))
+
+pub returns-in-Ok-clause-readies : goal.returns-in-Ok-clause-readies
+returns-in-Ok-clause-readies c =
+    subst (λ (r : Routing). (f : Family) → Readies c.args.oldest (live_of f r.lives) (live_of f c.prepare.new.self)) c.self.view_is
+    (each_by (Readies c.args.oldest) (readies_self c.args.oldest) c.in-Some.prefix.family c.self.inside.lives c.prepare.new.self c.prepare.ensures.readies c.prepare.ensures.other)
+
+pub returns-in-Ok-clause-other : goal.returns-in-Ok-clause-other
+returns-in-Ok-clause-other c = λ f no.
+    let t = c.self.inside in
+    let e = elem_as c.args.elem.now in
+    let old : Routing = record { held = t.lower.held; begun = t.lower.planned; lives = t.lives } in
+    let at = sym c.in_ok-planned.ensures.changed ∙ ap (option_map (λ r. prefix_as r.0)) (sym c.route.ensures ∙ c.in-Some.is) in
+    let was = ap (λ (r : Routing). changed_at r.held.candidates e) (sym c.self.view_is) ∙ at in
+    c.prepare.ensures.other f (no (prefix_as c.in-Some.prefix) was) ∙ ap (λ (r : Routing). live_of f r.lives) c.self.view_is
+
+pub returns-in-Err-clause-readies : goal.returns-in-Err-clause-readies
+returns-in-Err-clause-readies c =
+    subst (λ (r : Routing). (f : Family) → Readies c.args.oldest (live_of f r.lives) (live_of f c.prepare.new.self)) c.self.view_is
+    (each_by (Readies c.args.oldest) (readies_self c.args.oldest) c.in-Some.prefix.family c.self.inside.lives c.prepare.new.self c.prepare.ensures.readies c.prepare.ensures.other)
+
+pub returns-in-Err-clause-other : goal.returns-in-Err-clause-other
+returns-in-Err-clause-other c = λ f no.
+    let t = c.self.inside in
+    let e = elem_as c.args.elem.now in
+    let old : Routing = record { held = t.lower.held; begun = t.lower.planned; lives = t.lives } in
+    let at = sym c.in_ok-planned.ensures.changed ∙ ap (option_map (λ r. prefix_as r.0)) (sym c.route.ensures ∙ c.in-Some.is) in
+    let was = ap (λ (r : Routing). changed_at r.held.candidates e) (sym c.self.view_is) ∙ at in
+    c.prepare.ensures.other f (no (prefix_as c.in-Some.prefix) was) ∙ ap (λ (r : Routing). live_of f r.lives) c.self.view_is
+
+pub returns-in-Err-clause-kept : goal.returns-in-Err-clause-kept
+returns-in-Err-clause-kept c =
+    subst (λ (r : Routing). (f : Family) (L M : Entries) → Shows (live_of f r.lives) L M → Shows (live_of f c.prepare.new.self) L M) c.self.view_is
+    (each_by (λ (l n : Living). (L M : Entries) → Shows l L M → Shows n L M) (λ l L M h. h) c.in-Some.prefix.family c.self.inside.lives c.prepare.new.self c.in-Err.ensures.kept c.prepare.ensures.other)
+
+pub returns-in-Err-clause-quiet : goal.returns-in-Err-clause-quiet
+returns-in-Err-clause-quiet c = quiet_each _ c.prepare.new.self c.in-Err.ensures.still
+
+pub returns-in-Err-clause-resting : goal.returns-in-Err-clause-resting
+returns-in-Err-clause-resting c =
+    let t = c.self.inside in
+    let e = elem_as c.args.elem.now in
+    let old : Routing = record { held = t.lower.held; begun = t.lower.planned; lives = t.lives } in
+    let at = sym c.in_ok-planned.ensures.changed ∙ ap (option_map (λ r. prefix_as r.0)) (sym c.route.ensures ∙ c.in-Some.is) in
+    subst (λ (r : Routing). IsRestingFor e r c.in-Err.why) c.self.view_is (resting_by e old c.in-Err.why (prefix_as c.in-Some.prefix) at c.prepare.ensures.resting)
+
+pub returns-in_default-clause-readies : goal.returns-in_default-clause-readies
+returns-in_default-clause-readies c =
+    let t = c.self.inside in
+    subst (λ (r : Routing). (f : Family) → Readies c.args.oldest (live_of f r.lives) (live_of f t.lives)) c.self.view_is (λ f. readies_self c.args.oldest (live_of f t.lives))
