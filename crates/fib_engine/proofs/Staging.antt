@@ -33,7 +33,7 @@ use Rattle.fib_engine.specs.Tables.{Both, Route, KeepRoutes, MadeBy, both_firsts
 use Rattle.fib_engine.specs.Numbers.{HasNumber, IsNewNumber, IsRouteOf}
 use Rattle.fib_engine.specs.Held.{AreKeptNeeds, EngineState, IsSound, engine_routes, if_loaded}
 use Rattle.fib_engine.specs.Stands.{TakesElem, changes_of, first_of, routes_after}
-use Rattle.fib_engine.specs.Parts.{AreSound, IsChosen, IsWaiting, held_in, waiting_elem}
+use Rattle.fib_engine.specs.Parts.{AreSound, IsChosenIn, IsWaiting, held_in, waiting_elem}
 use Rattle.fib_engine.specs.Staged.{IsTurn, Waits, planned_route, routes_by}
 use Rattle.fib_engine.specs.declared.parts.Chosen as code_chosen
 use Rattle.fib_engine.specs.declared.parts.Parts as code_parts
@@ -195,7 +195,7 @@ module _ (w : code_waiting.Waiting) (p : code_parts.Parts) (i : IsWaiting w p) w
     made_first = ap length made.first ∙ ap (λ (t : Entries). length (first_changes p.limits.fewest H' C t elem)) (sym same_table)
 
 -- ---- an event of which it is known what it chooses
-module _ (c : code_chosen.Chosen) (p : code_parts.Parts) (i : IsChosen c p) where
+module _ (c : code_chosen.Chosen) (p : code_parts.Parts) (i : IsChosenIn c p) where
   abbrev AfterIt : Entries
   AfterIt = entries_of (hops_after p.hops.list (elem_as c.elem ∷ [])) (after_elem p.candidates.candidates (elem_as c.elem))
 

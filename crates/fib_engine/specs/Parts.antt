@@ -39,7 +39,7 @@ abbrev pub waiting_elem : code_waiting.Waiting → Elem
 waiting_elem w = elem_as w.elem
 
 -- What an event chooses is known, and there is room for it in the candidates and the hops: the load ended, and all is sound.
-pub record IsChosen (c : code_chosen.Chosen) (p : code_parts.Parts) : Type 0 where
+pub record IsChosenIn (c : code_chosen.Chosen) (p : code_parts.Parts) : Type 0 where
   pub loaded : p.is_loaded ≡ true
   pub sound : IsSound p.candidates.candidates p.hops.list true p.tables
   pub kept : AreKeptNeeds (sizes_as p.limits.sizes) (entries_of p.hops.list p.candidates.candidates) p.needs

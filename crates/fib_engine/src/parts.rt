@@ -6,7 +6,7 @@ ghost use Rattle.fib_prefix.specs.Views.{elem_as};
 ghost use Rattle.fib_delta.specs.Views.{change_as};
 ghost use Rattle.route_tries.specs.declared.sizes.TrieFull.{TrieFull};
 ghost use Rattle.fib_engine.specs.Stands.{IsShortFor, IsTooMany, TakesElem, changes_of, first_of, routes_after};
-ghost use Rattle.fib_engine.specs.Parts.{AreSound, IsChosen, IsWaiting, held_in, waiting_elem};
+ghost use Rattle.fib_engine.specs.Parts.{AreSound, IsChosenIn, IsWaiting, held_in, waiting_elem};
 
 use crate::engine::Limits;
 use crate::error::EngineError;
@@ -87,7 +87,7 @@ impl Parts {
         requires few { self.old.events + 1 < 2 ^ 64 }
         ensures seen { held_in self.new ≡ held_in self.old }
         ensures elem { IfOk result (λ c. c.elem ≡ elem.now) }
-        ensures chosen { IfOk result (λ c. IsChosen c self.new) }
+        ensures chosen { IfOk result (λ c. IsChosenIn c self.new) }
         ensures full { IsErrOf result EngineError.HopsFull
             ↔ IsTooMany (elem_as elem.now) (held_in self.old) }
         ensures fits { (t : TrieFull) → ¬ (IsErrOf result (EngineError.TrieFull t)) }
@@ -111,7 +111,7 @@ impl Parts {
     ///
     /// `TrieFull` as `Engine::apply`'s, or no memory; then all is as it was.
     fn plan_chosen(&mut self, chosen: Chosen) -> Result<Waiting, EngineError>
-        requires { IsChosen chosen self.old }
+        requires { IsChosenIn chosen self.old }
         ensures seen { held_in self.new ≡ held_in self.old }
         ensures elem { IfOk result (λ w. w.elem ≡ chosen.elem) }
         ensures waiting { IfOk result (λ w. IsWaiting w self.new) }
@@ -174,7 +174,7 @@ impl Parts {
 
     /// Makes an event that changes no chosen hop, where no snapshot follows it: no table is touched. It takes no memory.
     fn pass(&mut self, chosen: Chosen) -> EventChanges
-        requires chosen { IsChosen chosen self.old }
+        requires chosen { IsChosenIn chosen self.old }
         requires route { chosen.route ≡ None }
         requires due { due_at self.old.limits.every (self.old.events + 1) ≡ false }
         ensures sound { AreSound self.new }
@@ -198,7 +198,7 @@ impl Parts {
     /// `TrieFull` as `Engine::apply`'s, or no memory; then all is as it was.
     #[inline(never)]
     fn make(&mut self, chosen: Chosen) -> Result<EventChanges, EngineError>
-        requires { IsChosen chosen self.old }
+        requires { IsChosenIn chosen self.old }
         ensures sound { AreSound self.new }
         ensures takes { OnOk result (TakesElem (elem_as chosen.elem) (held_in self.old)
             (held_in self.new)) }
