@@ -33,8 +33,8 @@ use Rattle.fib_engine.specs.Tables.{Both, Route, KeepRoutes, MadeBy, both_firsts
 use Rattle.fib_engine.specs.Numbers.{HasNumber, IsNewNumber, IsRouteOf}
 use Rattle.fib_engine.specs.Held.{AreKeptNeeds, EngineState, IsSound, engine_routes, if_loaded}
 use Rattle.fib_engine.specs.Stands.{TakesElem, changes_of, first_of, routes_after}
-use Rattle.fib_engine.specs.Parts.{AreSound, IsChosenIn, IsWaiting, held_in, waiting_elem}
-use Rattle.fib_engine.specs.Staged.{IsTurn, Waits, planned_route, routes_by}
+use Rattle.fib_engine.specs.Parts.{AreSound, IsChosenIn, IsWaiting, state_in, waiting_elem}
+use Rattle.fib_engine.specs.Staged.{IsTurn, Waits, planned_route, routes_once}
 use Rattle.fib_engine.specs.declared.parts.Chosen as code_chosen
 use Rattle.fib_engine.specs.declared.parts.Parts as code_parts
 use Rattle.fib_engine.specs.declared.parts.Waiting as code_waiting
@@ -163,7 +163,7 @@ module _ (w : code_waiting.Waiting) (p : code_parts.Parts) (i : IsWaiting w p) w
     )
 
     pub made_takes : (first : ℕ) (moves : Option ℕ) → first ≡ w.fitting.plan.changes.first → moves ≡ option_map (λ r. first) w.route
-        → TakesElem elem (held_in p) (record {
+        → TakesElem elem (state_in p) (record {
           every = p.limits.every;
           fewest = p.limits.fewest;
           sizes = sizes_as p.limits.sizes;
@@ -188,10 +188,10 @@ module _ (w : code_waiting.Waiting) (p : code_parts.Parts) (i : IsWaiting w p) w
       moves = e ∙ (made.moves first (is ∙ i.first) ∙ ap (λ (t : Entries). option_map (λ q. length (first_changes p.limits.fewest H' C t elem)) (changed_at C elem)) (sym same_table));
     }
 
-    pub made_changes : gathered (moved_of w.fitting.plan.v4) (moved_of w.fitting.plan.v6) ≡ changes_of elem (held_in p)
+    pub made_changes : gathered (moved_of w.fitting.plan.v4) (moved_of w.fitting.plan.v6) ≡ changes_of elem (state_in p)
     made_changes = made.changes ∙ ap (λ (t : Entries). told_of p.limits.fewest false p.limits.every H' (p.events + 1) C t elem) (sym same_table)
 
-    pub made_first : length (both_firsts (moved_of w.fitting.plan.v4) (moved_of w.fitting.plan.v6)) ≡ length (first_of elem (held_in p))
+    pub made_first : length (both_firsts (moved_of w.fitting.plan.v4) (moved_of w.fitting.plan.v6)) ≡ length (first_of elem (state_in p))
     made_first = ap length made.first ∙ ap (λ (t : Entries). length (first_changes p.limits.fewest H' C t elem)) (sym same_table)
 
 -- ---- an event of which it is known what it chooses
@@ -259,7 +259,7 @@ module _ (c : code_chosen.Chosen) (p : code_parts.Parts) (i : IsChosenIn c p) wh
       pub passed_sound : IsSound D G p.is_loaded p.tables × AreKeptNeeds (sizes_as p.limits.sizes) (if_loaded p.is_loaded (entries_of G D)) p.needs
       passed_sound = made_sound passing p waits D G p.tables dc gh keeps (stays_made p.tables.v4.entries) (stays_made p.tables.v6.entries)
 
-      pub passed_takes : TakesElem (elem_as c.elem) (held_in p) (record {
+      pub passed_takes : TakesElem (elem_as c.elem) (state_in p) (record {
         every = p.limits.every;
         fewest = p.limits.fewest;
         sizes = sizes_as p.limits.sizes;
@@ -272,14 +272,14 @@ module _ (c : code_chosen.Chosen) (p : code_parts.Parts) (i : IsChosenIn c p) wh
       })
       passed_takes = made_takes passing p waits D G p.tables dc gh keeps (stays_made p.tables.v4.entries) (stays_made p.tables.v6.entries) e.first None refl refl
 
-      pub passed_changes : map change_as e.changes.items ≡ changes_of (elem_as c.elem) (held_in p)
+      pub passed_changes : map change_as e.changes.items ≡ changes_of (elem_as c.elem) (state_in p)
       passed_changes = waits.changes ∙ made_changes passing p waits D G p.tables dc gh keeps (stays_made p.tables.v4.entries) (stays_made p.tables.v6.entries)
 
-      pub passed_first : e.first ≡ length (first_of (elem_as c.elem) (held_in p))
+      pub passed_first : e.first ≡ length (first_of (elem_as c.elem) (state_in p))
       passed_first = waits.first ∙ made_first passing p waits D G p.tables dc gh keeps (stays_made p.tables.v4.entries) (stays_made p.tables.v6.entries)
 
 -- ---- the trees
-pub tree_routes : (f : Family) (o : Option code_waiting.Waiting) (p : code_parts.Parts) → Waits o p → (labels_of f p.tables).routes ≡ only f (routes_by (option_map waiting_elem o) (held_in p))
+pub tree_routes : (f : Family) (o : Option code_waiting.Waiting) (p : code_parts.Parts) → Waits o p → (labels_of f p.tables).routes ≡ only f (routes_once (option_map waiting_elem o) (state_in p))
 tree_routes V4 None p i = i.1.0.v4.routes ∙ ap (λ (b : Bool). only V4 (if_loaded b (entries_of p.hops.list p.candidates.candidates))) i.0
 tree_routes V6 None p i = i.1.0.v6.routes ∙ ap (λ (b : Bool). only V6 (if_loaded b (entries_of p.hops.list p.candidates.candidates))) i.0
 tree_routes V4 (Some w) p i = tree_of_plan w p i V4

@@ -17,8 +17,8 @@ use Rattle.fib_engine.specs.declared.parts.Waiting as code_waiting
 use Rattle.fib_engine.specs.declared.parts.Chosen as code_chosen
 
 -- what is seen of them
-abbrev pub held_in : code_parts.Parts → EngineState
-held_in p = record {
+abbrev pub state_in : code_parts.Parts → EngineState
+state_in p = record {
   every = p.limits.every;
   fewest = p.limits.fewest;
   sizes = sizes_as p.limits.sizes;

@@ -23,8 +23,8 @@ pub record Staging : Type 0 where
   pub planned : Option Elem
 
 -- the elementary event of a token
-abbrev pub planned_elem : code_planned.Planned → Elem
-planned_elem p = elem_as p.elem
+abbrev pub elem_of_plan : code_planned.Planned → Elem
+elem_of_plan p = elem_as p.elem
 
 -- the route that it changes, with the number that the hop chosen then has or gets, 0 where none is; nothing if it changes no chosen hop
 abbrev pub planned_route : code_planned.Planned → Route
@@ -48,9 +48,9 @@ Waits None p = (p.is_loaded ≡ true) × AreSound p
 Waits (Some w) p = IsWaiting w p
 
 -- the routes, or those after the event, if one is planned
-abbrev pub routes_by : Option Elem → EngineState → Entries
-routes_by None e = engine_routes e
-routes_by (Some elem) e = routes_after elem e
+abbrev pub routes_once : Option Elem → EngineState → Entries
+routes_once None e = engine_routes e
+routes_once (Some elem) e = routes_after elem e
 
 abbrev pub routes_planned : Staging → Entries
-routes_planned s = routes_by s.planned s.held
+routes_planned s = routes_once s.planned s.held

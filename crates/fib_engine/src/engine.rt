@@ -57,11 +57,11 @@ pub struct Engine {
 
 impl Model for Engine {
     ghost use Rattle.fib_engine.specs.Held.{EngineState};
-    ghost use Rattle.fib_engine.specs.Parts.{AreSound, held_in};
+    ghost use Rattle.fib_engine.specs.Parts.{AreSound, state_in};
 
     ghost Value = { EngineState };
 
-    ghost view = { λ e. held_in e.parts };
+    ghost view = { λ e. state_in e.parts };
 
     ghost invariant = { λ e. AreSound e.parts };
 }

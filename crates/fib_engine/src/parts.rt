@@ -6,7 +6,7 @@ ghost use Rattle.fib_prefix.specs.Views.{elem_as};
 ghost use Rattle.fib_delta.specs.Views.{change_as};
 ghost use Rattle.route_tries.specs.declared.sizes.TrieFull.{TrieFull};
 ghost use Rattle.fib_engine.specs.Stands.{IsShortFor, IsTooMany, TakesElem, changes_of, first_of, routes_after};
-ghost use Rattle.fib_engine.specs.Parts.{AreSound, IsChosenIn, IsWaiting, held_in, waiting_elem};
+ghost use Rattle.fib_engine.specs.Parts.{AreSound, IsChosenIn, IsWaiting, state_in, waiting_elem};
 
 use crate::engine::Limits;
 use crate::error::EngineError;
@@ -85,11 +85,11 @@ impl Parts {
         requires sound { AreSound self.old }
         requires loaded { self.old.is_loaded ≡ true }
         requires few { self.old.events + 1 < 2 ^ 64 }
-        ensures seen { held_in self.new ≡ held_in self.old }
+        ensures seen { state_in self.new ≡ state_in self.old }
         ensures elem { IfOk result (λ c. c.elem ≡ elem.now) }
         ensures chosen { IfOk result (λ c. IsChosenIn c self.new) }
         ensures full { IsErrOf result EngineError.HopsFull
-            ↔ IsTooMany (elem_as elem.now) (held_in self.old) }
+            ↔ IsTooMany (elem_as elem.now) (state_in self.old) }
         ensures fits { (t : TrieFull) → ¬ (IsErrOf result (EngineError.TrieFull t)) }
         ensures err { OnErr result (AreSound self.new) }
     {
@@ -112,12 +112,12 @@ impl Parts {
     /// `TrieFull` as `Engine::apply`'s, or no memory; then all is as it was.
     fn plan_chosen(&mut self, chosen: Chosen) -> Result<Waiting, EngineError>
         requires { IsChosenIn chosen self.old }
-        ensures seen { held_in self.new ≡ held_in self.old }
+        ensures seen { state_in self.new ≡ state_in self.old }
         ensures elem { IfOk result (λ w. w.elem ≡ chosen.elem) }
         ensures waiting { IfOk result (λ w. IsWaiting w self.new) }
         ensures hops { ¬ (IsErrOf result EngineError.HopsFull) }
         ensures short { (t : TrieFull) → IsErrOf result (EngineError.TrieFull t)
-            → IsShortFor (held_in self.old) (routes_after (elem_as chosen.elem) (held_in self.old)) t }
+            → IsShortFor (state_in self.old) (routes_after (elem_as chosen.elem) (state_in self.old)) t }
         ensures err { OnErr result (AreSound self.new) }
     {
         let limits = &self.limits;
@@ -150,13 +150,13 @@ impl Parts {
         requires sound { AreSound self.old }
         requires loaded { self.old.is_loaded ≡ true }
         requires few { self.old.events + 1 < 2 ^ 64 }
-        ensures seen { held_in self.new ≡ held_in self.old }
+        ensures seen { state_in self.new ≡ state_in self.old }
         ensures elem { IfOk result (λ w. waiting_elem w ≡ elem_as elem.now) }
         ensures waiting { IfOk result (λ w. IsWaiting w self.new) }
         ensures full { IsErrOf result EngineError.HopsFull
-            ↔ IsTooMany (elem_as elem.now) (held_in self.old) }
+            ↔ IsTooMany (elem_as elem.now) (state_in self.old) }
         ensures short { (t : TrieFull) → IsErrOf result (EngineError.TrieFull t)
-            → IsShortFor (held_in self.old) (routes_after (elem_as elem.now) (held_in self.old)) t }
+            → IsShortFor (state_in self.old) (routes_after (elem_as elem.now) (state_in self.old)) t }
         ensures err { OnErr result (AreSound self.new) }
     {
         let chosen = self.choose(elem)?;
@@ -178,10 +178,10 @@ impl Parts {
         requires route { chosen.route ≡ None }
         requires due { due_at self.old.limits.every (self.old.events + 1) ≡ false }
         ensures sound { AreSound self.new }
-        ensures takes { TakesElem (elem_as chosen.elem) (held_in self.old) (held_in self.new) }
+        ensures takes { TakesElem (elem_as chosen.elem) (state_in self.old) (state_in self.new) }
         ensures changes { map change_as result.changes.items
-            ≡ changes_of (elem_as chosen.elem) (held_in self.old) }
-        ensures first { result.first ≡ length (first_of (elem_as chosen.elem) (held_in self.old)) }
+            ≡ changes_of (elem_as chosen.elem) (state_in self.old) }
+        ensures first { result.first ≡ length (first_of (elem_as chosen.elem) (state_in self.old)) }
     {
         self.candidates.commit(chosen.pick);
         number_hop(&mut self.hops, chosen.own, &chosen.elem);
@@ -200,16 +200,16 @@ impl Parts {
     fn make(&mut self, chosen: Chosen) -> Result<EventChanges, EngineError>
         requires { IsChosenIn chosen self.old }
         ensures sound { AreSound self.new }
-        ensures takes { OnOk result (TakesElem (elem_as chosen.elem) (held_in self.old)
-            (held_in self.new)) }
+        ensures takes { OnOk result (TakesElem (elem_as chosen.elem) (state_in self.old)
+            (state_in self.new)) }
         ensures changes { IfOk result (λ e. map change_as e.changes.items
-            ≡ changes_of (elem_as chosen.elem) (held_in self.old)) }
+            ≡ changes_of (elem_as chosen.elem) (state_in self.old)) }
         ensures first { IfOk result (λ e. e.first
-            ≡ length (first_of (elem_as chosen.elem) (held_in self.old))) }
+            ≡ length (first_of (elem_as chosen.elem) (state_in self.old))) }
         ensures hops { ¬ (IsErrOf result EngineError.HopsFull) }
         ensures short { (t : TrieFull) → IsErrOf result (EngineError.TrieFull t)
-            → IsShortFor (held_in self.old) (routes_after (elem_as chosen.elem) (held_in self.old)) t }
-        ensures err { OnErr result (held_in self.new ≡ held_in self.old) }
+            → IsShortFor (state_in self.old) (routes_after (elem_as chosen.elem) (state_in self.old)) t }
+        ensures err { OnErr result (state_in self.new ≡ state_in self.old) }
     {
         let waiting = self.plan_chosen(chosen)?;
         Ok(self.commit(waiting))
@@ -226,16 +226,16 @@ impl Parts {
         requires loaded { self.old.is_loaded ≡ true }
         requires few { self.old.events + 1 < 2 ^ 64 }
         ensures sound { AreSound self.new }
-        ensures takes { OnOk result (TakesElem (elem_as elem.now) (held_in self.old) (held_in self.new)) }
+        ensures takes { OnOk result (TakesElem (elem_as elem.now) (state_in self.old) (state_in self.new)) }
         ensures changes { IfOk result (λ e. map change_as e.changes.items
-            ≡ changes_of (elem_as elem.now) (held_in self.old)) }
+            ≡ changes_of (elem_as elem.now) (state_in self.old)) }
         ensures first { IfOk result (λ e. e.first
-            ≡ length (first_of (elem_as elem.now) (held_in self.old))) }
+            ≡ length (first_of (elem_as elem.now) (state_in self.old))) }
         ensures full { IsErrOf result EngineError.HopsFull
-            ↔ IsTooMany (elem_as elem.now) (held_in self.old) }
+            ↔ IsTooMany (elem_as elem.now) (state_in self.old) }
         ensures short { (t : TrieFull) → IsErrOf result (EngineError.TrieFull t)
-            → IsShortFor (held_in self.old) (routes_after (elem_as elem.now) (held_in self.old)) t }
-        ensures err { OnErr result (held_in self.new ≡ held_in self.old) }
+            → IsShortFor (state_in self.old) (routes_after (elem_as elem.now) (state_in self.old)) t }
+        ensures err { OnErr result (state_in self.new ≡ state_in self.old) }
     {
         let chosen = self.choose(elem)?;
         if self.is_passed(&chosen) {
@@ -249,10 +249,10 @@ impl Parts {
     pub(crate) fn commit(&mut self, waiting: Waiting) -> EventChanges
         requires { IsWaiting waiting self.old }
         ensures sound { AreSound self.new }
-        ensures takes { TakesElem (waiting_elem waiting) (held_in self.old) (held_in self.new) }
+        ensures takes { TakesElem (waiting_elem waiting) (state_in self.old) (state_in self.new) }
         ensures changes { map change_as result.changes.items
-            ≡ changes_of (waiting_elem waiting) (held_in self.old) }
-        ensures first { result.first ≡ length (first_of (waiting_elem waiting) (held_in self.old)) }
+            ≡ changes_of (waiting_elem waiting) (state_in self.old) }
+        ensures first { result.first ≡ length (first_of (waiting_elem waiting) (state_in self.old)) }
     {
         self.candidates.commit(waiting.pick);
         number_hop(&mut self.hops, waiting.own, &waiting.elem);
@@ -267,7 +267,7 @@ impl Parts {
     pub(crate) fn undo(&mut self, waiting: Waiting)
         requires { IsWaiting waiting self.old }
         ensures sound { AreSound self.new }
-        ensures seen { held_in self.new ≡ held_in self.old }
+        ensures seen { state_in self.new ≡ state_in self.old }
     {
         self.tables.undo(waiting.fitting.plan);
     }

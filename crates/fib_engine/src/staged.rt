@@ -18,7 +18,7 @@ ghost use Rattle.route_tries.specs.declared.sizes.TrieFull.{TrieFull};
 ghost use Rattle.fib_engine.specs.Held.{engine_routes};
 ghost use Rattle.fib_engine.specs.Numbers.{brought_as, brought_by};
 ghost use Rattle.fib_engine.specs.Stands.{IsShortFor, IsTooMany, EngineStands, TakesElem, changes_of, first_of, routes_after};
-ghost use Rattle.fib_engine.specs.Staged.{IsTurn, changed_prefix, planned_elem, planned_hop, routes_planned};
+ghost use Rattle.fib_engine.specs.Staged.{IsTurn, changed_prefix, elem_of_plan, planned_hop, routes_planned};
 ghost use Rattle.fib_engine.specs.Tables.{only};
 
 use crate::error::EngineError;
@@ -68,13 +68,13 @@ pub struct Staged {
 
 impl Model for Staged {
     ghost use Rattle.std.specs.Prelude.{option_map};
-    ghost use Rattle.fib_engine.specs.Parts.{held_in, waiting_elem};
+    ghost use Rattle.fib_engine.specs.Parts.{state_in, waiting_elem};
     ghost use Rattle.fib_engine.specs.Staged.{Staging, Waits};
 
     ghost Value = { Staging };
 
     ghost view = { λ s. record {
-      held = held_in s.parts;
+      held = state_in s.parts;
       planned = option_map waiting_elem s.waiting;
     } };
 
@@ -118,7 +118,7 @@ impl Staged {
         requires few { self.old.held.events + 1 < 2 ^ 64 }
         ensures held { self.new.held ≡ self.old.held }
         ensures planned { OnOk result (self.new.planned ≡ Some (elem_as elem.now)) }
-        ensures token { IfOk result (λ p. planned_elem p ≡ elem_as elem.now) }
+        ensures token { IfOk result (λ p. elem_of_plan p ≡ elem_as elem.now) }
         ensures turn { IfOk result (IsTurn (elem_as elem.now) self.old.held) }
         ensures changed { IfOk result (λ p. changed_prefix p
             ≡ changed_at self.old.held.candidates (elem_as elem.now)) }
@@ -155,18 +155,18 @@ impl Staged {
 
     /// Makes a planned event, counts it, and gives its changes. It takes no memory.
     pub fn commit(&mut self, planned: Planned) -> EventChanges
-        requires { self.old.planned ≡ Some (planned_elem planned) }
+        requires { self.old.planned ≡ Some (elem_of_plan planned) }
         ensures rest { self.new.planned ≡ None }
-        ensures takes { TakesElem (planned_elem planned) self.old.held self.new.held }
+        ensures takes { TakesElem (elem_of_plan planned) self.old.held self.new.held }
         ensures changes { map change_as result.changes.items
-            ≡ changes_of (planned_elem planned) self.old.held }
-        ensures first { result.first ≡ length (first_of (planned_elem planned) self.old.held) }
+            ≡ changes_of (elem_of_plan planned) self.old.held }
+        ensures first { result.first ≡ length (first_of (elem_of_plan planned) self.old.held) }
         ensures shortest { self.old.held.fewest ≡ true → (p : model_prefix)
-            → changed_at self.old.held.candidates (planned_elem planned) ≡ Some p
-            → AreShortest p.family (routes_after (planned_elem planned) self.old.held)
-            self.old.held.table (first_of (planned_elem planned) self.old.held) }
+            → changed_at self.old.held.candidates (elem_of_plan planned) ≡ Some p
+            → AreShortest p.family (routes_after (elem_of_plan planned) self.old.held)
+            self.old.held.table (first_of (elem_of_plan planned) self.old.held) }
         ensures stands { (load elems : List model_elem) → EngineStands load elems self.old.held
-            → EngineStands load (elems ++ planned_elem planned ∷ []) self.new.held }
+            → EngineStands load (elems ++ elem_of_plan planned ∷ []) self.new.held }
         ensures fits { shortage self.new.held.sizes (engine_routes self.new.held) ≡ None }
     {
         let Some(waiting) = self.waiting.take() else {
@@ -177,7 +177,7 @@ impl Staged {
 
     /// Forgets a planned event. It takes no memory.
     pub fn undo(&mut self, planned: Planned)
-        requires { self.old.planned ≡ Some (planned_elem planned) }
+        requires { self.old.planned ≡ Some (elem_of_plan planned) }
         ensures rest { self.new.planned ≡ None }
         ensures held { self.new.held ≡ self.old.held }
     {

@@ -12,7 +12,7 @@ use Rattle.poptrie_set.specs.First.{slot_of}
 use Rattle.poptrie_update.specs.Lives.{Living, Shows}
 use Rattle.poptrie_update.specs.Reads.{covers_by, published_entries}
 use Rattle.fib_engine.specs.Held.{EngineState, engine_routes}
-use Rattle.fib_engine.specs.Staged.{routes_by}
+use Rattle.fib_engine.specs.Staged.{routes_once}
 use Rattle.fib_router.specs.Lives.{AreLives, IsLiveOf, live_of}
 use Rattle.fib_router.specs.declared.lives.Lives as code_lives
 
@@ -29,7 +29,7 @@ module _ (held : EngineState) (o : Option Elem) (t : code_lives.Lives) (a : Addr
   L = engine_routes held
 
   abbrev M : Entries
-  M = routes_by o held
+  M = routes_once o held
 
   shown : Shows live L M
   shown = subst (λ (l : Living). Shows l L M) (sym is) (own held o t a.family lives).shows
@@ -53,4 +53,4 @@ module _ (held : EngineState) (o : Option Elem) (t : code_lives.Lives) (a : Addr
   pub rest_of : ((E F : Entries) → Shows live E F → found.hop.0 ≡ match_in (published_entries live E F a) (addr_as a)) → o ≡ None → found.hop.0 ≡ match_in L (addr_as a)
   rest_of h none =
       hop_of h
-      ∙ ap (λ (E : Entries). match_in E (addr_as a)) (ap (λ (p : Option Elem). published_entries (live_of a.family t) L (routes_by p held) a) none ∙ either (covers_by (live_of a.family t).state (live_of a.family t).selected (slot_of (live_of a.family t).selected.direct_bits a)) L)
+      ∙ ap (λ (E : Entries). match_in E (addr_as a)) (ap (λ (p : Option Elem). published_entries (live_of a.family t) L (routes_once p held) a) none ∙ either (covers_by (live_of a.family t).state (live_of a.family t).selected (slot_of (live_of a.family t).selected.direct_bits a)) L)

@@ -18,7 +18,7 @@ use Rattle.poptrie_update.specs.declared.pending.Pending.{Pending}
 use Rattle.route_tries.specs.Sizes.{Sizes, shortage, sizes_as}
 use Rattle.route_tries.specs.declared.sizes.Sizes as code_sizes
 use Rattle.fib_engine.specs.Held.{EngineState, engine_routes}
-use Rattle.fib_engine.specs.Staged.{routes_by}
+use Rattle.fib_engine.specs.Staged.{routes_once}
 use Rattle.fib_engine.specs.Stands.{TakesElem}
 use Rattle.fib_engine.specs.Tables.{only}
 use Rattle.fib_router.specs.Errors.{IsHeldUp, IsSaidOf}
@@ -64,11 +64,11 @@ fits_now f held l L M who w i fits r t is =
     not_too_much f held.sizes.direct held.sizes.nodes held.sizes.leaves l.selected M t i.family i.direct i.nodes i.leaves (room_of f held.sizes M fits) (subst (λ (x : NotReady). IsNotReady who x l L M) is r)
 
 -- ---- through begin
-own_begun : (f : Family) (held : EngineState) (o : Option Elem) (l r : Living) → (o ≡ None → ⊥) → held.events + 1 < 2 ^ 64 → HasShapeOf l r → r.selected.time ≡ l.selected.time → is_pending r ≡ true → Shows r (engine_routes held) (routes_by o held) → IsLiveOf f held None l → IsLiveOf f held o r
+own_begun : (f : Family) (held : EngineState) (o : Option Elem) (l r : Living) → (o ≡ None → ⊥) → held.events + 1 < 2 ^ 64 → HasShapeOf l r → r.selected.time ≡ l.selected.time → is_pending r ≡ true → Shows r (engine_routes held) (routes_once o held) → IsLiveOf f held None l → IsLiveOf f held o r
 own_begun f held None l r given few s t w sh i = absurd (given refl)
 own_begun f held (Some e) l r given few s t w sh i = begun_of f held e l r few s t w sh i
 
-other_begun : (f : Family) (held : EngineState) (o : Option Elem) (l : Living) → held.events + 1 < 2 ^ 64 → all_answers f (engine_routes held) ≡ all_answers f (routes_by o held) → IsLiveOf f held None l → IsLiveOf f held o l
+other_begun : (f : Family) (held : EngineState) (o : Option Elem) (l : Living) → held.events + 1 < 2 ^ 64 → all_answers f (engine_routes held) ≡ all_answers f (routes_once o held) → IsLiveOf f held None l → IsLiveOf f held o l
 other_begun f held None l few a i = i
 other_begun f held (Some e) l few a i = begun_elsewhere f held e l few a i
 
@@ -83,11 +83,11 @@ module _ (held : EngineState) (o : Option Elem) (old : code_lives.Lives) (rest :
   HasToken p = IsTokenOf p live × (made_of live ≡ 0)
 
   module _ (given : o ≡ None → ⊥) (few : held.events + 1 < 2 ^ 64) where
-    pub ready_low : (r : Result Pending NotBegun) → all_answers V6 (engine_routes held) ≡ all_answers V6 (routes_by o held) → HasShapeOf old.v4 live → live.selected.time ≡ old.v4.selected.time → IfOk r HasToken → OnOk r (Shows live (engine_routes held) (routes_by o held)) → OnOk r (AreLives held o low)
+    pub ready_low : (r : Result Pending NotBegun) → all_answers V6 (engine_routes held) ≡ all_answers V6 (routes_once o held) → HasShapeOf old.v4 live → live.selected.time ≡ old.v4.selected.time → IfOk r HasToken → OnOk r (Shows live (engine_routes held) (routes_once o held)) → OnOk r (AreLives held o low)
     ready_low (Ok p) same s t token sh = (own_begun V4 held o old.v4 live given few s t (is_waiting p live token.0) sh rest.0, other_begun V6 held o old.v6 few same rest.1)
     ready_low (Err e) same s t token sh = tt
 
-    pub ready_high : (r : Result Pending NotBegun) → all_answers V4 (engine_routes held) ≡ all_answers V4 (routes_by o held) → HasShapeOf old.v6 live → live.selected.time ≡ old.v6.selected.time → IfOk r HasToken → OnOk r (Shows live (engine_routes held) (routes_by o held)) → OnOk r (AreLives held o high)
+    pub ready_high : (r : Result Pending NotBegun) → all_answers V4 (engine_routes held) ≡ all_answers V4 (routes_once o held) → HasShapeOf old.v6 live → live.selected.time ≡ old.v6.selected.time → IfOk r HasToken → OnOk r (Shows live (engine_routes held) (routes_once o held)) → OnOk r (AreLives held o high)
     ready_high (Ok p) same s t token sh = (other_begun V4 held o old.v4 few same rest.0, own_begun V6 held o old.v6 live given few s t (is_waiting p live token.0) sh rest.1)
     ready_high (Err e) same s t token sh = tt
 
@@ -100,7 +100,7 @@ module _ (held : EngineState) (o : Option Elem) (old : code_lives.Lives) (rest :
   still_high (Err e) s t q sh = (rest.0, still_of V6 held old.v6 live s t q sh rest.1)
 
 -- an event that changes no chosen hop
-pub begun_both : (held : EngineState) (o : Option Elem) (t : code_lives.Lives) → held.events + 1 < 2 ^ 64 → ((f : Family) → all_answers f (engine_routes held) ≡ all_answers f (routes_by o held)) → AreLives held None t → AreLives held o t
+pub begun_both : (held : EngineState) (o : Option Elem) (t : code_lives.Lives) → held.events + 1 < 2 ^ 64 → ((f : Family) → all_answers f (engine_routes held) ≡ all_answers f (routes_once o held)) → AreLives held None t → AreLives held o t
 begun_both held o t few same r = (other_begun V4 held o t.v4 few (same V4) r.0, other_begun V6 held o t.v6 few (same V6) r.1)
 
 pub ended_both : (held new : EngineState) (e : Elem) (t : code_lives.Lives) → TakesElem e held new → is_pending t.v4 ≡ false → is_pending t.v6 ≡ false → AreLives held (Some e) t → AreLives new None t

@@ -18,7 +18,7 @@ use Rattle.route_tries.specs.Parts.{AreAlikeOutside}
 use Rattle.route_tries.specs.Sizes.{shortage}
 use Rattle.route_tries.specs.declared.sizes.TrieFull as code_full
 use Rattle.fib_engine.specs.Held.{EngineState, engine_routes}
-use Rattle.fib_engine.specs.Staged.{IsTurn, Staging, planned_route, routes_by, routes_planned}
+use Rattle.fib_engine.specs.Staged.{IsTurn, Staging, planned_route, routes_once, routes_planned}
 use Rattle.fib_engine.specs.Stands.{routes_after}
 use Rattle.fib_engine.specs.Tables.{Route, only, route_in}
 use Rattle.fib_engine.specs.declared.error.EngineError.{EngineError}
@@ -35,7 +35,7 @@ use Rattle.fib_router.proofs.Through.{answers_known}
 -- ---- once it is planned
 module _ (old : EngineState) (q : Staging) (e : Elem) (same : q.held ≡ old) (is : q.planned ≡ Some e) where
   now : routes_planned q ≡ routes_after e old
-  now = ap (λ (o : Option Elem). routes_by o q.held) is ∙ ap (routes_after e) same
+  now = ap (λ (o : Option Elem). routes_once o q.held) is ∙ ap (routes_after e) same
 
   pub within_now : (p : Prefix) → AreAlikeOutside p (engine_routes old) (routes_after e old) → AreAlikeOutside p (engine_routes q.held) (routes_planned q)
   within_now p o =
@@ -92,4 +92,4 @@ pinned_by who e r error.NoMemory p is h = tt
 -- what is said of it is told of the routes before the event and after it
 pub hindered_now : (who : Oldest) (why : NotBegun) (l : Living) (old : EngineState) (q : Staging) (e : Elem) → q.held ≡ old → q.planned ≡ Some e → IsHeldUp who why l (engine_routes q.held) (routes_planned q) → IsHeldUp who why l (engine_routes old) (routes_after e old)
 hindered_now who why l old q e same is h =
-    subst (λ (g : EngineState). IsHeldUp who why l (engine_routes g) (routes_after e g)) same (subst (λ (o : Option Elem). IsHeldUp who why l (engine_routes q.held) (routes_by o q.held)) is h)
+    subst (λ (g : EngineState). IsHeldUp who why l (engine_routes g) (routes_after e g)) same (subst (λ (o : Option Elem). IsHeldUp who why l (engine_routes q.held) (routes_once o q.held)) is h)

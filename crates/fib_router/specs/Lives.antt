@@ -17,7 +17,7 @@ use Rattle.poptrie_update.specs.declared.live.Other.TheVariants as other
 use Rattle.poptrie_update.specs.declared.pending.Pending.{Pending}
 use Rattle.route_tries.specs.declared.sizes.Sizes as code_sizes
 use Rattle.fib_engine.specs.Held.{EngineState, engine_routes}
-use Rattle.fib_engine.specs.Staged.{routes_by}
+use Rattle.fib_engine.specs.Staged.{routes_once}
 use Rattle.fib_router.specs.declared.lives.Lives as code_lives
 
 -- that of a family
@@ -50,9 +50,9 @@ pub record IsLiveOf (f : Family) (held : EngineState) (begun : Option Elem) (l :
   pub leaves : l.selected.leaves.space.order ≡ held.sizes.leaves
   pub time : l.selected.time ≤ held.events
   pub counted : (e : Elem) → begun ≡ Some e → held.events + 1 < 2 ^ 64
-  pub shows : Shows l (engine_routes held) (routes_by begun held)
+  pub shows : Shows l (engine_routes held) (routes_once begun held)
   pub quiet : begun ≡ None → is_pending l ≡ false
-  pub same : is_pending l ≡ false → all_answers f (engine_routes held) ≡ all_answers f (routes_by begun held)
+  pub same : is_pending l ≡ false → all_answers f (engine_routes held) ≡ all_answers f (routes_once begun held)
 
 abbrev pub AreLives : EngineState → Option Elem → code_lives.Lives → Type 0
 AreLives held begun t = IsLiveOf V4 held begun t.v4 × IsLiveOf V6 held begun t.v6

@@ -12,7 +12,7 @@ use Rattle.poptrie_update.specs.Reads.{published_entries}
 use Rattle.poptrie_update.specs.declared.pending.Pending.{Pending}
 use Rattle.fib_engine.specs.Held.{EngineState, engine_routes}
 use Rattle.fib_engine.specs.Stands.{routes_after}
-use Rattle.fib_engine.specs.Staged.{planned_elem, planned_hop, routes_by}
+use Rattle.fib_engine.specs.Staged.{elem_of_plan, planned_hop, routes_once}
 use Rattle.kept_model.specs.Kept.{changed_at}
 use Rattle.poptrie_set.specs.declared.trie_set.Oldest.{Oldest}
 use Rattle.fib_router.specs.Errors.{IsHeldUp}
@@ -31,11 +31,11 @@ pub record Routing : Type 0 where
 -- The entries that are published to an address: the routes, or where a store that was made covers its slot those after the event that
 -- is begun.
 abbrev pub published_to : Routing → Addr → Entries
-published_to r a = published_entries (live_of a.family r.lives) (engine_routes r.held) (routes_by r.begun r.held) a
+published_to r a = published_entries (live_of a.family r.lives) (engine_routes r.held) (routes_once r.begun r.held) a
 
 -- ---- the token of the event that is begun
 abbrev pub begun_elem : code_begun.Begun → Elem
-begun_elem b = planned_elem b.planned
+begun_elem b = elem_of_plan b.planned
 
 -- the hop that its end will number, with that number
 abbrev pub begun_hop : code_begun.Begun → Option (code_hop.Hop × Addr)

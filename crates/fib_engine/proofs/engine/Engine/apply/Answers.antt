@@ -2,14 +2,14 @@ use Rattle.std.proofs.Common.{ap, length, subst, ◌∙◌}
 use Rattle.fib_prefix.specs.Views.{elem_as}
 use Rattle.orig_tree.specs.Views.{InPlace}
 use Rattle.fib_engine.specs.Held.{EngineState}
-use Rattle.fib_engine.specs.Parts.{held_in}
+use Rattle.fib_engine.specs.Parts.{state_in}
 use Rattle.fib_engine.specs.Stands.{TakesElem, changes_of, first_of}
 use Rattle.fib_engine.proofs.Taking.{is_elem, shortest_first, stands_more, table_placed}
 use Rattle.fib_engine.proofs.Staging.{sound_fits}
 use Rattle.fib_engine.proofs.engine.Engine.apply.Goals as goal
 
 pub returns-clause-takes : goal.returns-clause-takes
-returns-clause-takes c = subst (λ (h : EngineState). TakesElem (elem_as c.args.elem.now) h (held_in c.apply.new.self)) c.self.view_is c.in_ok-changes.ensures.takes
+returns-clause-takes c = subst (λ (h : EngineState). TakesElem (elem_as c.args.elem.now) h (state_in c.apply.new.self)) c.self.view_is c.in_ok-changes.ensures.takes
 
 pub returns-clause-changes : goal.returns-clause-changes
 returns-clause-changes c = c.in_ok-changes.ensures.changes ∙ ap (changes_of (elem_as c.args.elem.now)) c.self.view_is
@@ -27,7 +27,7 @@ returns-clause-fits c = sound_fits c.apply.new.self (c.in_ok-changes.ensures.tak
 
 pub returns-clause-stands : goal.returns-clause-stands
 returns-clause-stands c = λ load elems st.
-    let new = held_in c.apply.new.self in
+    let new = state_in c.apply.new.self in
     let takes = subst (λ (h : EngineState). TakesElem (elem_as c.args.elem.now) h new) c.self.view_is c.in_ok-changes.ensures.takes in
     let fits = sound_fits c.apply.new.self (c.in_ok-changes.ensures.takes.loaded ∙ (ap (λ (h : EngineState). h.loaded) c.self.view_is ∙ c.requires.loaded)) c.apply.ensures.sound in
     stands_more load elems (elem_as c.args.elem.now) c.args.self.now new (is_elem c.args.elem.now) takes fits st

@@ -7,7 +7,7 @@ use Rattle.route_tries.specs.Parts.{AreAlikeOutside}
 use Rattle.route_tries.specs.Sizes.{shortage}
 use Rattle.fib_engine.specs.Held.{EngineState, engine_routes}
 use Rattle.fib_engine.specs.Numbers.{brought_by}
-use Rattle.fib_engine.specs.Parts.{held_in}
+use Rattle.fib_engine.specs.Parts.{state_in}
 use Rattle.fib_engine.specs.Staged.{Staging}
 use Rattle.fib_engine.specs.Stands.{routes_after}
 use Rattle.fib_engine.specs.Tables.{only, route_in}
@@ -37,7 +37,7 @@ returns-clause-turn c = λ f.
     let e = c.in_ok-waiting.ensures.elem in
     let same = c.plan.ensures.seen ∙ ap (λ (s : Staging). s.held) c.self.view_is in
     let first = turn_of_plan w q c.in_ok-waiting.ensures.waiting f in
-    let second = subst (λ (x : Elem). with_planned (route_in f w.route) (only f (engine_routes (held_in q))) ≡ only f (routes_after x (held_in q))) e first in
+    let second = subst (λ (x : Elem). with_planned (route_in f w.route) (only f (engine_routes (state_in q))) ≡ only f (routes_after x (state_in q))) e first in
     subst (λ (h : EngineState). with_planned (route_in f w.route) (only f (engine_routes h)) ≡ only f (routes_after (elem_as c.args.elem.now) h)) same second
 
 pub returns-clause-changed : goal.returns-clause-changed
@@ -53,7 +53,7 @@ returns-clause-within c = λ p is.
     let q = c.plan.new.self in
     let e = c.in_ok-waiting.ensures.elem in
     let same = c.plan.ensures.seen ∙ ap (λ (s : Staging). s.held) c.self.view_is in
-    let second = subst (λ (x : Elem). AreAlikeOutside p (engine_routes (held_in q)) (routes_after x (held_in q))) e (outside_plan w q c.in_ok-waiting.ensures.waiting p is) in
+    let second = subst (λ (x : Elem). AreAlikeOutside p (engine_routes (state_in q)) (routes_after x (state_in q))) e (outside_plan w q c.in_ok-waiting.ensures.waiting p is) in
     subst (λ (h : EngineState). AreAlikeOutside p (engine_routes h) (routes_after (elem_as c.args.elem.now) h)) same second
 
 pub returns-clause-fits : goal.returns-clause-fits
@@ -62,7 +62,7 @@ returns-clause-fits c =
     let q = c.plan.new.self in
     let e = c.in_ok-waiting.ensures.elem in
     let same = c.plan.ensures.seen ∙ ap (λ (s : Staging). s.held) c.self.view_is in
-    let second = subst (λ (x : Elem). shortage (held_in q).sizes (routes_after x (held_in q)) ≡ None) e (fit_of_plan w q c.in_ok-waiting.ensures.waiting) in
+    let second = subst (λ (x : Elem). shortage (state_in q).sizes (routes_after x (state_in q)) ≡ None) e (fit_of_plan w q c.in_ok-waiting.ensures.waiting) in
     subst (λ (h : EngineState). shortage h.sizes (routes_after (elem_as c.args.elem.now) h) ≡ None) same second
 
 pub returns-clause-brings : goal.returns-clause-brings

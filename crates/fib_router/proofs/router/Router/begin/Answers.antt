@@ -14,7 +14,7 @@ use Rattle.table_model.specs.declared.family.Family.{Family}
 use Rattle.table_model.specs.Entries.{Entries}
 use Rattle.poptrie_update.specs.Lives.{Living, Shows, is_pending}
 use Rattle.fib_engine.specs.Held.{engine_routes}
-use Rattle.fib_engine.specs.Staged.{routes_planned, routes_by}
+use Rattle.fib_engine.specs.Staged.{routes_planned, routes_once}
 use Rattle.fib_router.specs.declared.lives.Lives as code_lives
 use Rattle.fib_router.specs.Lives.{AreLives, IsReadyFor, Readies, live_of}
 use Rattle.fib_router.specs.Router.{IsPinnedFor, IsRestingFor, Routing}
@@ -86,7 +86,7 @@ returns-in-Ok-clause-ready c = λ p is.
     subst (λ (r : Routing). IsReadyFor (engine_routes r.held) (routes_after e r.held) (live_of p.family c.prepare.new.self)) c.self.view_is
     (subst (λ (x : Prefix). IsReadyFor (engine_routes old.held) (routes_after e old.held) (live_of x.family c.prepare.new.self)) (sym there)
     (subst (λ (h : EngineState). IsReadyFor (engine_routes h) (routes_after e h) (live_of c.in-Some.prefix.family c.prepare.new.self)) c.plan.ensures.held
-    (subst (λ (o : Option Elem). IsReadyFor (engine_routes q.held) (routes_by o q.held) (live_of c.in-Some.prefix.family c.prepare.new.self)) c.in_ok-planned.ensures.planned c.in-Ok.ensures.ready)))
+    (subst (λ (o : Option Elem). IsReadyFor (engine_routes q.held) (routes_once o q.held) (live_of c.in-Some.prefix.family c.prepare.new.self)) c.in_ok-planned.ensures.planned c.in-Ok.ensures.ready)))
 
 pub returns-in-Ok-clause-readies : goal.returns-in-Ok-clause-readies
 returns-in-Ok-clause-readies c =
