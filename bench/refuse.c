@@ -1,8 +1,9 @@
 /* Refuses one growth of a run: of the blocks of memory that a program asks for once it runs, the one whose number stands in REFUSE,
- * from 1, isn't given. Where it was reached, an octet goes to the descriptor in REFUSED. To be preloaded: bench/refuse_growths.py
- * does so. */
+ * from 1, isn't given. If it was reached, an octet goes to the descriptor in REFUSED. With COUNTED the number of blocks that were asked
+ * for goes to the descriptor there, in decimal digits, as the program ends. To be preloaded: bench/refuse_growths.py does so. */
 #include <errno.h>
 #include <stddef.h>
+#include <stdio.h>
 #include <stdlib.h>
 #include <unistd.h>
 
@@ -12,6 +13,7 @@ extern void *__libc_realloc(void *, size_t);
 extern void *__libc_memalign(size_t, size_t);
 
 static long left;
+static long asked;
 static int told;
 
 __attribute__((constructor)) static void arm(void) {
@@ -21,7 +23,14 @@ __attribute__((constructor)) static void arm(void) {
     told = left ? atoi(descriptor) : -1;
 }
 
+__attribute__((destructor)) static void count(void) {
+    const char *descriptor = getenv("COUNTED");
+    if (descriptor)
+        dprintf(atoi(descriptor), "%ld", asked);
+}
+
 static int is_refused(void) {
+    asked++;
     if (left == 0 || --left != 0)
         return 0;
     if (write(told, "r", 1) != 1)

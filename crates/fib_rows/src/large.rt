@@ -1,10 +1,11 @@
 //! Large inputs, for which memory suffices: no clause says that it does.
 
 use crate::harness::{FIRST, Given, Record, inputs_of, octets_of, rows_named, run_on, text_of};
-use crate::records::{ALL_TO_B, LOST, OF_16_BITS, PEERS};
+use crate::records::{ALL_TO_B, LOST, OF_16_BITS, PEERS, TEN_TO_A, TEN_TO_B};
 use fib_addr::{Addr, MOST_TEXT, addr_text};
 use fib_io::MemInputs;
 use fib_main::Outcome;
+use itoa::Buffer;
 use std::alloc::Global;
 use std::test::Fail;
 
@@ -115,5 +116,100 @@ fn an_update_of_all_addresses_in_steps(rt: HostRuntime) -> Result<(), Fail> {
     assert_eq!(rt; came.outcome, Outcome::Done);
     assert!(rt; came.out.written().starts_with(FIRST_ROWS));
     assert!(rt; came.out.written().ends_with(LAST_ROWS));
+    Ok(())
+}
+
+/// Adds a row of a run in steps, behind those so far.
+fn push_row(rows: &mut Vec<u8>, count: &mut u64, row: &[&str]) -> Result<(), Fail> {
+    *count = count.saturating_add(1);
+    let mut buffer = Buffer::new();
+    rows.extend_from_slice(b"step,")?;
+    rows.extend_from_slice(buffer.format(*count).as_bytes())?;
+    rows.push(b',')?;
+    for part in row {
+        rows.extend_from_slice(part.as_bytes())?;
+    }
+    rows.push(b'\n')?;
+    Ok(())
+}
+
+/// Over 200,000 octets of updates, which announce 10.0.0.0/8 by B and by A in turn.
+const UPDATES: usize = 2_700;
+
+/// So many of them are made in steps, by a script of 2,000 lines.
+const MADE: usize = 250;
+
+/// An event in arenas in which no second trie fits beside the first: the other set is made, and its selector is the one store. Then a
+/// look-up reads a word and two nodes.
+const EVENT: &[u8] = b"prepare\nstore\nstore\nend\nopen 10.1.2.3\ngo 0\ngo 0\ngo 0\n";
+
+/// What follows the numbers of its steps, up to the last one, which answers.
+const EVENT_ROWS: [&str; 7] = [
+    "prepared", "stored", "nothing", "ended", "open,0", "on,0", "on,0",
+];
+
+#[test]
+fn a_script_of_2_000_lines(rt: HostRuntime) -> Result<(), Fail> {
+    let alloc = rt.alloc();
+    let mut updates: Vec<Record> = Vec::new(alloc);
+    for number in 0..UPDATES {
+        updates.push(if number % 2 == 0 { TEN_TO_B } else { TEN_TO_A })?;
+    }
+    let mut script = Vec::new(alloc);
+    let mut due = Vec::new(alloc);
+    let mut count = 0;
+    for number in 0..MADE {
+        script.extend_from_slice(EVENT)?;
+        for row in EVENT_ROWS {
+            push_row(&mut due, &mut count, &[row])?;
+        }
+        let hop = if number % 2 == 0 { "2" } else { "1" };
+        push_row(&mut due, &mut count, &["hop,0,192.0.2.", hop])?;
+    }
+    let given = Given {
+        words: &[
+            "fib", "steps", "dump", "updates", "script", "--direct", "0", "--nodes", "1",
+            "--leaves", "3",
+        ],
+        updates: &updates,
+        script: &script,
+        room: 100_000,
+        ..FIRST
+    };
+    let came = run_on(alloc, &given, inputs_of(alloc, &given)?)?;
+    assert_eq!(rt; came.outcome, Outcome::Done);
+    assert_eq!(rt; came.out.written(), due.as_slice());
+    Ok(())
+}
+
+/// Ten routes are lost with their session: ten events of one store each, and then there is none.
+#[test]
+fn a_lost_session_in_steps(rt: HostRuntime) -> Result<(), Fail> {
+    let alloc = rt.alloc();
+    let mut script = Vec::new(alloc);
+    let mut due = Vec::new(alloc);
+    let mut count = 0;
+    for _ in 0..10 {
+        script.extend_from_slice(b"prepare\nstore\nstore\nend\n")?;
+        for row in ["prepared", "stored", "nothing", "ended"] {
+            push_row(&mut due, &mut count, &[row])?;
+        }
+    }
+    script.extend_from_slice(b"prepare\n")?;
+    push_row(&mut due, &mut count, &["nothing"])?;
+    let mut names = Vec::new(alloc);
+    names.push((String::from_str(alloc, "dump")?, dump_of(alloc, 10)?))?;
+    names.push((
+        String::from_str(alloc, "updates")?,
+        octets_of(alloc, &[LOST])?,
+    ))?;
+    names.push((String::from_str(alloc, "script")?, script))?;
+    let given = Given {
+        words: &["fib", "steps", "dump", "updates", "script"],
+        ..FIRST
+    };
+    let came = run_on(alloc, &given, MemInputs::new(names, Vec::new(alloc)))?;
+    assert_eq!(rt; came.outcome, Outcome::Done);
+    assert_eq!(rt; came.out.written(), due.as_slice());
     Ok(())
 }

@@ -1,6 +1,6 @@
 //! A router's events, and look-ups beside them.
 
-ghost use Rattle.std.specs.Prelude.{◌≡◌, ◌+◌, ◌<◌, ◌^◌, None, IfOk, OnOk};
+ghost use Rattle.std.specs.Prelude.{◌≡◌, ◌+◌, ◌<◌, ◌^◌, None, false, IfOk, OnOk, OnErr};
 ghost use Rattle.fib_router.specs.Router.{IsBegunIn, begun_elem, stores_left_of};
 
 use fib_addr::Steps;
@@ -92,14 +92,15 @@ fn store_all(router: &mut Router, begun: &mut Begun) -> u64
     stores
 }
 
-/// Takes an event, and looks up beside it.
-fn take(router: &mut Router, elem: &Elem) -> Result<Beside, NotBegun>
+/// Takes an event beside this oldest lookup, and looks up beside it.
+fn take_beside(router: &mut Router, elem: &Elem, oldest: Oldest) -> Result<Beside, NotBegun>
     requires rest { router.old.begun ≡ None }
     requires few { router.old.held.events + 1 < 2 ^ 64 }
     ensures rest { router.new.begun ≡ None }
     ensures events { OnOk result (router.new.held.events ≡ router.old.held.events + 1) }
+    ensures still { OnErr result (router.new.held ≡ router.old.held) }
 {
-    let mut begun = router.begin(elem, Oldest::Nobody)?;
+    let mut begun = router.begin(elem, oldest)?;
     let before = found(router);
     let stores = store_all(router, &mut begun);
     let stored = found(router);
@@ -112,6 +113,17 @@ fn take(router: &mut Router, elem: &Elem) -> Result<Beside, NotBegun>
         }),
         Err(_begun) => unreachable!(),
     }
+}
+
+/// Takes an event where no other lookup goes on.
+fn take(router: &mut Router, elem: &Elem) -> Result<Beside, NotBegun>
+    requires rest { router.old.begun ≡ None }
+    requires few { router.old.held.events + 1 < 2 ^ 64 }
+    ensures rest { router.new.begun ≡ None }
+    ensures events { OnOk result (router.new.held.events ≡ router.old.held.events + 1) }
+    ensures still { OnErr result (router.new.held ≡ router.old.held) }
+{
+    take_beside(router, elem, Oldest::Nobody)
 }
 
 /// Begins an event and cancels it.
@@ -168,5 +180,89 @@ fn an_event_goes_beside_look_ups(rt: HostRuntime) -> Result<(), NotBegun> {
     assert_eq!(rt; told.changes.len(), 1);
     assert_eq!(rt; found(&router), (Hop(3), Hop(1)));
     assert!(rt; is_refused(rt.alloc())?);
+    Ok(())
+}
+
+/// So many different hops have numbers.
+const MOST: u32 = 65_534;
+
+/// Loads as many routes, each by a hop of its own.
+fn load_all(engine: &mut Engine) -> Result<(), EngineError>
+    requires loading { engine.old.loaded ≡ false }
+    requires none { engine.old.events ≡ 0 }
+    ensures loading { OnOk result (engine.new.loaded ≡ false) }
+    ensures none { OnOk result (engine.new.events ≡ 0) }
+{
+    for number in 0..MOST {
+        engine.load(&put((number << 8, 24), number + 1))?;
+    }
+    Ok(())
+}
+
+/// A router in which every number has a hop.
+fn crowded(alloc: Global) -> Result<Router, EngineError>
+    ensures rest { IfOk result (λ r. r.begun ≡ None) }
+    ensures events { IfOk result (λ r. r.held.events ≡ 0) }
+{
+    let mut engine = Engine::new(
+        alloc,
+        Limits {
+            every: 0,
+            fewest: false,
+            sizes: Sizes {
+                direct: 16,
+                nodes: 16,
+                leaves: 18,
+            },
+        },
+    );
+    load_all(&mut engine)?;
+    engine.finish_load()?;
+    let router = Router::new(alloc, engine)?;
+    Ok(router)
+}
+
+/// An event brings one different hop too many; the same route by a hop that has a number is taken.
+#[test]
+fn no_number_for_another_hop(rt: HostRuntime) -> Result<(), NotBegun> {
+    let mut router = crowded(rt.alloc())?;
+    assert_eq!(rt;
+        take(&mut router, &put((0, 24), MOST + 1)),
+        Err(NotBegun::HopsFull)
+    );
+    assert_eq!(rt; found(&router), (Hop(1), Hop::NONE));
+    assert_eq!(rt; take(&mut router, &put((0, 24), MOST))?.stores, 1);
+    assert_eq!(rt; found(&router), (Hop(65_534), Hop::NONE));
+    Ok(())
+}
+
+/// With room for one trie a set, the second event makes the other set. A lookup that started before its end pins what the third one would
+/// need; once it is over the event is taken.
+#[test]
+fn an_event_waits_for_a_look_up(rt: HostRuntime) -> Result<(), NotBegun> {
+    let sizes = Sizes {
+        direct: 4,
+        nodes: 0,
+        leaves: 1,
+    };
+    let mut router = loaded(rt.alloc(), sizes)?;
+    for hop in [8, 9] {
+        assert_eq!(rt; take(&mut router, &put((0, 8), hop))?.stores, 1);
+    }
+    let pinned = NotBegun::Pinned {
+        need: 1,
+        cursor: 5,
+        arena: 0,
+        largest: None,
+    };
+    let third = put((0, 8), 8);
+    let oldest = Oldest::Started {
+        cursor: 5,
+        since: 1,
+    };
+    assert_eq!(rt; take_beside(&mut router, &third, oldest), Err(pinned));
+    assert_eq!(rt; found(&router), (Hop(3), Hop(1)));
+    assert_eq!(rt; take(&mut router, &third)?.stores, 1);
+    assert_eq!(rt; found(&router), (Hop(2), Hop(1)));
     Ok(())
 }
