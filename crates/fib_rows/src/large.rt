@@ -1,7 +1,7 @@
 //! Large inputs, for which memory suffices: no clause says that it does.
 
 use crate::harness::{FIRST, Given, Record, inputs_of, octets_of, rows_named, run_on, text_of};
-use crate::records::{ALL_TO_B, LOST, OF_16_BITS, PEERS, TEN_TO_A, TEN_TO_B};
+use crate::records::{ALL_TO_B, LOST, OF_16_BITS, PEERS};
 use fib_addr::{Addr, MOST_TEXT, addr_text};
 use fib_io::MemInputs;
 use fib_main::Outcome;
@@ -130,55 +130,6 @@ fn push_row(rows: &mut Vec<u8>, count: &mut u64, row: &[&str]) -> Result<(), Fai
         rows.extend_from_slice(part.as_bytes())?;
     }
     rows.push(b'\n')?;
-    Ok(())
-}
-
-/// Over 200,000 octets of updates, which announce 10.0.0.0/8 by B and by A in turn.
-const UPDATES: usize = 2_700;
-
-/// So many of them are made in steps, by a script of 2,000 lines.
-const MADE: usize = 250;
-
-/// An event in arenas in which no second trie fits beside the first: the other set is made, and its selector is the one store. Then a
-/// look-up reads a word and two nodes.
-const EVENT: &[u8] = b"prepare\nstore\nstore\nend\nopen 10.1.2.3\ngo 0\ngo 0\ngo 0\n";
-
-/// What follows the numbers of its steps, up to the last one, which answers.
-const EVENT_ROWS: [&str; 7] = [
-    "prepared", "stored", "nothing", "ended", "open,0", "on,0", "on,0",
-];
-
-#[test]
-fn a_script_of_2_000_lines(rt: HostRuntime) -> Result<(), Fail> {
-    let alloc = rt.alloc();
-    let mut updates: Vec<Record> = Vec::new(alloc);
-    for number in 0..UPDATES {
-        updates.push(if number % 2 == 0 { TEN_TO_B } else { TEN_TO_A })?;
-    }
-    let mut script = Vec::new(alloc);
-    let mut due = Vec::new(alloc);
-    let mut count = 0;
-    for number in 0..MADE {
-        script.extend_from_slice(EVENT)?;
-        for row in EVENT_ROWS {
-            push_row(&mut due, &mut count, &[row])?;
-        }
-        let hop = if number % 2 == 0 { "2" } else { "1" };
-        push_row(&mut due, &mut count, &["hop,0,192.0.2.", hop])?;
-    }
-    let given = Given {
-        words: &[
-            "fib", "steps", "dump", "updates", "script", "--direct", "0", "--nodes", "1",
-            "--leaves", "3",
-        ],
-        updates: &updates,
-        script: &script,
-        room: 100_000,
-        ..FIRST
-    };
-    let came = run_on(alloc, &given, inputs_of(alloc, &given)?)?;
-    assert_eq!(rt; came.outcome, Outcome::Done);
-    assert_eq!(rt; came.out.written(), due.as_slice());
     Ok(())
 }
 

@@ -1,6 +1,6 @@
 //! A router's events, and look-ups beside them.
 
-ghost use Rattle.std.specs.Prelude.{◌≡◌, ◌+◌, ◌<◌, ◌^◌, None, false, IfOk, OnOk, OnErr};
+ghost use Rattle.std.specs.Prelude.{◌≡◌, ◌+◌, ◌<◌, ◌^◌, None, IfOk, OnOk, OnErr};
 ghost use Rattle.fib_router.specs.Router.{IsBegunIn, begun_elem, stores_left_of};
 
 use fib_addr::Steps;
@@ -180,59 +180,6 @@ fn an_event_goes_beside_look_ups(rt: HostRuntime) -> Result<(), NotBegun> {
     assert_eq!(rt; told.changes.len(), 1);
     assert_eq!(rt; found(&router), (Hop(3), Hop(1)));
     assert!(rt; is_refused(rt.alloc())?);
-    Ok(())
-}
-
-/// So many different hops have numbers.
-const MOST: u32 = 65_534;
-
-/// Loads as many routes, each by a hop of its own.
-fn load_all(engine: &mut Engine) -> Result<(), EngineError>
-    requires loading { engine.old.loaded ≡ false }
-    requires none { engine.old.events ≡ 0 }
-    ensures loading { OnOk result (engine.new.loaded ≡ false) }
-    ensures none { OnOk result (engine.new.events ≡ 0) }
-{
-    for number in 0..MOST {
-        engine.load(&put((number << 8, 24), number + 1))?;
-    }
-    Ok(())
-}
-
-/// A router in which every number has a hop.
-fn crowded(alloc: Global) -> Result<Router, EngineError>
-    ensures rest { IfOk result (λ r. r.begun ≡ None) }
-    ensures events { IfOk result (λ r. r.held.events ≡ 0) }
-{
-    let mut engine = Engine::new(
-        alloc,
-        Limits {
-            every: 0,
-            fewest: false,
-            sizes: Sizes {
-                direct: 16,
-                nodes: 16,
-                leaves: 18,
-            },
-        },
-    );
-    load_all(&mut engine)?;
-    engine.finish_load()?;
-    let router = Router::new(alloc, engine)?;
-    Ok(router)
-}
-
-/// An event brings one different hop too many; the same route by a hop that has a number is taken.
-#[test]
-fn no_number_for_another_hop(rt: HostRuntime) -> Result<(), NotBegun> {
-    let mut router = crowded(rt.alloc())?;
-    assert_eq!(rt;
-        take(&mut router, &put((0, 24), MOST + 1)),
-        Err(NotBegun::HopsFull)
-    );
-    assert_eq!(rt; found(&router), (Hop(1), Hop::NONE));
-    assert_eq!(rt; take(&mut router, &put((0, 24), MOST))?.stores, 1);
-    assert_eq!(rt; found(&router), (Hop(65_534), Hop::NONE));
     Ok(())
 }
 
