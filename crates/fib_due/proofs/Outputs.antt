@@ -3,7 +3,7 @@ use Rattle.std.proofs.Common.{◌≡◌, List, Result, Ok, Err, refl}
 use Rattle.octet_fields.specs.Field.{◌>>=◌}
 use Rattle.table_model.specs.Address.{Prefix}
 use Rattle.route_model.specs.Events.{Event}
-use Rattle.step_run.specs.Stepping.{Stepping}
+use Rattle.router_steps.specs.Stepping.{Stepping}
 use Rattle.fib_same.specs.Due as same
 use Rattle.fib_due.specs.declared.outcome.Outcome.TheVariants.{BadLine, TooLarge}
 use Rattle.fib_due.specs.declared.outcome.Which.TheVariants.{Text}

@@ -47,7 +47,7 @@ use Rattle.mrt_read.specs.Cuts.{is_cut, is_small}
 use Rattle.fib_due.specs.Stops.{Stop, bad_record, records_due, told_content, unless_stopped, whole_records, with_room}
 use Rattle.fib_due.specs.Refusals.{Limits, Refusal, routes_by, stop_at, too_much}
 use Rattle.route_tries.specs.Sizes.{Shortage, Sizes, shortage}
-use Rattle.step_run.specs.Stepping.{Stepping}
+use Rattle.router_steps.specs.Stepping.{Stepping}
 use Rattle.fib_due.specs.Due.{Feed, Printed, stepped, stepping_at, printed, asks_at, feed_at, feeds_at, limits_of, load_at, made, made_at, sizes_of, feed_of, feed_in, elems_in, read_part, run_changes, kept_of, run_moves, told_at, run_at, used_at, vrps_at, output_at, ran, checked, due, usage, answers_to, saved_at}
 use Rattle.fib_due.specs.Proves.{IfRan}
 use Rattle.fib_due.specs.Runs.{IfDue, SumsUp, Forwards, Answers, HasLeast, HasAggregate, Certified, InPrefixOrder, IsInOrder, HasHops}

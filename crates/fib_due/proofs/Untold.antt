@@ -18,7 +18,7 @@ use Rattle.fib_due.specs.Stops.{Stop, Untold, Refused, LongPath, IsDueIfTold, Fa
 use Rattle.fib_due.specs.Due.{Output, Alike, Checked, Claimed, Moved, Repeats, Wrong, Refuted, Differs, MovesRefuted, due, reply_at, saved_of, Reply, made, made_at, ran, reply_of, stepped, stepping_at, told_at, output_text, with_reply, with_world, world_at, wrong_in}
 use Rattle.fib_due.specs.Ends.{EndsBy, IsDue, Meets}
 use Rattle.fib_due.specs.Owned.{IsNo, IsOf, IsOfMoves, IsOfTexts, Owns, StopsIn}
-use Rattle.step_run.specs.Stepping.{Stepping}
+use Rattle.router_steps.specs.Stepping.{Stepping}
 use Rattle.fib_due.specs.Stepped.{EndsEarly, EndsRun, FitsSteps, GivesReply, GivesSteps, IfStepping}
 use Rattle.fib_due.specs.Untold.{FitsUntold, FitsSome, GivesSome}
 

@@ -51,7 +51,7 @@ use Rattle.fib_due.specs.Checks.{verdict_of, verdict_text}
 use Rattle.fib_due.specs.MovesChecks.{claim_text}
 use Rattle.step_script.specs.Script.{Step, script_in}
 use Rattle.step_script.specs.Machine.{World}
-use Rattle.step_run.specs.Stepping.{Stepping, world_of}
+use Rattle.router_steps.specs.Stepping.{Stepping, world_of}
 use Rattle.fib_due.specs.Stepping.{events_at, events_of}
 
 abbrev pub usage : Option Asked → Result Asked Stop

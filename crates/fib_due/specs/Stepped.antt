@@ -4,7 +4,7 @@ use Rattle.fib_io.specs.Octets.{Adds, AddsSome}
 use Rattle.table_model.specs.declared.family.Family.{Family}
 use Rattle.table_model.specs.declared.family.Family.TheVariants.{V4, V6}
 use Rattle.step_script.specs.Machine.{ComesTo, IsHopsFull, IsTrieFull}
-use Rattle.step_run.specs.Stepping.{Stepping, IsTextOf}
+use Rattle.router_steps.specs.Stepping.{Stepping, IsTextOf}
 use Rattle.fib_words.specs.Commands.{Asked, Run, Check, Make, Steps, Same, Save, Moves, CheckMoves}
 use Rattle.fib_due.specs.declared.reply.Reply as code_reply
 use Rattle.fib_due.specs.declared.outcome.Outcome.{Outcome}

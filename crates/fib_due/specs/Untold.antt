@@ -21,7 +21,7 @@ use Rattle.fib_due.specs.Views.{reply_as}
 use Rattle.fib_due.specs.Stepped.{EndsRun, GivesReply, GivesRun, IfStepping}
 use Rattle.octet_fields.specs.Field.{◌>>=◌}
 use Rattle.step_script.specs.Script.{Step}
-use Rattle.step_run.specs.Stepping.{Stepping}
+use Rattle.router_steps.specs.Stepping.{Stepping}
 
 -- the outcome is the due one, and out has what is due
 abbrev pub FitsUntold : Result Output Stop → Option (List ℕ) → Option (List ℕ) → Outcome → Type 0

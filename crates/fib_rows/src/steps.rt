@@ -5,8 +5,8 @@ use crate::records::{PEERS, SIX, SIX_TO_SECOND, SIX_TO_THIRD, TEN, TEN_TO_A, TEN
 use fib_addr::Family;
 use fib_main::{Outcome, Which};
 use poptrie_build::TrieFull;
+use router_steps::StepError;
 use std::test::Fail;
-use stepper::StepError;
 
 /// Tries of 2 nodes and 8 leaves.
 const SMALL: &[&str] = &[

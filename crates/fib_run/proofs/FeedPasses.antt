@@ -15,9 +15,9 @@ use Rattle.route_model.specs.Events.{Event}
 use Rattle.route_tries.specs.declared.sizes.TrieFull as short
 use Rattle.step_script.specs.Machine.{World}
 use Rattle.step_script.specs.Script.{Step}
-use Rattle.stepper.specs.Runs as runs
-use Rattle.stepper.specs.declared.error.StepError.{StepError}
-use Rattle.stepper.specs.declared.error.StepError.TheVariants as step
+use Rattle.router_steps.specs.Runs as runs
+use Rattle.router_steps.specs.declared.error.StepError.{StepError}
+use Rattle.router_steps.specs.declared.error.StepError.TheVariants as step
 use Rattle.mrt_read.specs.Whole as whole_input
 use Rattle.mrt_read.specs.declared.whole.WholeError.{WholeError}
 use Rattle.mrt_read.specs.declared.whole.WholeError.TheVariants as whole

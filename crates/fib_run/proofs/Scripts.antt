@@ -9,7 +9,7 @@ use Rattle.fib_addr.proofs.Numbers.{number_is}
 use Rattle.printed_text.specs.Reading.{address_field, bad_number, next_field, one_field, or_why}
 use Rattle.printed_text.specs.Texts.{BadLine, line_texts}
 use Rattle.step_script.specs.Script.{Step, opens, goes, prepares, stores, ends, cancels, fieldless, cursor_field, is_space, step_of, step_in, steps_after, script_in, with_step}
-use Rattle.stepper.specs.Runs.{IsPrinted, ArePrinted}
+use Rattle.router_steps.specs.Runs.{IsPrinted, ArePrinted}
 
 -- the step of a line, if it has one, has a number below 128
 abbrev Fine : Result Step ℕ → Type 0

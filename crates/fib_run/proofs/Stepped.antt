@@ -6,10 +6,10 @@ use Rattle.octet_fields.specs.Field.{◌>>=◌}
 use Rattle.route_model.specs.Events.{Event}
 use Rattle.step_script.specs.Script.{Step}
 use Rattle.step_script.specs.Machine.{World}
-use Rattle.stepper.specs.declared.error.StepError.{StepError}
-use Rattle.stepper.specs.declared.error.StepError.TheVariants as step
-use Rattle.stepper.specs.Runs.{StepsEndBy}
-use Rattle.step_run.specs.Stepping.{Stepping, IsTextOf, world_of}
+use Rattle.router_steps.specs.declared.error.StepError.{StepError}
+use Rattle.router_steps.specs.declared.error.StepError.TheVariants as step
+use Rattle.router_steps.specs.Runs.{StepsEndBy}
+use Rattle.router_steps.specs.Stepping.{Stepping, IsTextOf, world_of}
 use Rattle.fib_io.specs.Causes.{Rose}
 use Rattle.fib_words.specs.Commands.{Asked, Named, NamedMoves, NamedSame, NamedSave, NamedSteps, Run, Check, Make, Steps, Same, Save, Moves}
 use Rattle.fib_due.specs.declared.reply.Reply as code_reply

@@ -3,8 +3,8 @@ use Rattle.std.specs.Prelude.{◌≡◌, [], Result, Ok, Err}
 use Rattle.route_tries.specs.Sizes.{Sizes}
 use Rattle.fib_engine.specs.Held.{EngineState}
 use Rattle.fib_engine.specs.Stands.{EngineStands}
-use Rattle.stepper.specs.declared.error.StepError.{StepError}
-use Rattle.stepper.specs.declared.error.StepError.TheVariants as step
+use Rattle.router_steps.specs.declared.error.StepError.{StepError}
+use Rattle.router_steps.specs.declared.error.StepError.TheVariants as step
 use Rattle.fib_due.specs.declared.outcome.Outcome.{Outcome}
 use Rattle.fib_due.specs.declared.outcome.Outcome.TheVariants.{NoMemory, HopsFull, TrieFull}
 use Rattle.fib_due.specs.Stops.{Stop, IsDueIfTold, FailsDue}

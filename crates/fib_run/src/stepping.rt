@@ -4,7 +4,7 @@ ghost use Rattle.std.specs.Prelude.{◌≡◌, [], ◌∷◌, map, IfErr, IfOk};
 ghost use Rattle.fib_prefix.specs.Views.{event_as};
 ghost use Rattle.route_tries.specs.Sizes.{sizes_as};
 ghost use Rattle.step_script.specs.Steps.{step_as};
-ghost use Rattle.stepper.specs.Runs.{ArePrinted};
+ghost use Rattle.router_steps.specs.Runs.{ArePrinted};
 ghost use Rattle.fib_words.specs.Commands.{AreWithinLimits, Steps, steps_as};
 ghost use Rattle.fib_due.specs.Due.{load_at, script_at, stepping_at, steps_sizes, with_world, world_at};
 ghost use Rattle.fib_due.specs.Ends.{after, reads_steps, ReadsName, ReadsNames};
@@ -29,8 +29,8 @@ use fib_rov::Vrps;
 use fib_words::{CommandWords, StepsWords};
 use mrt_read::{WholeError, read_all_events};
 use poptrie_build::TrieFull;
+use router_steps::{StepError, run_steps};
 use std::alloc::Global;
-use step_run::{StepError, run_steps};
 use step_script::{ScriptError, Step, read_script};
 
 /// The steps of the script.
@@ -183,7 +183,7 @@ fn rows_of<I: Inputs>(
 {
     let engine = load_of(alloc, inputs, command)?;
     let events = events_of(alloc, inputs, command.updates)?;
-    match run_steps(alloc, engine, &events, &sizes_of(command), script) {
+    match run_steps(alloc, engine, &events, script) {
         Ok(text) => Ok(text),
         Err(error) => Err(outcome_of_step(error)),
     }

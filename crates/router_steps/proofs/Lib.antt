@@ -1,3 +1,4 @@
+pub mod Turns
 pub mod Slots
 pub mod Opened
 pub mod Trie

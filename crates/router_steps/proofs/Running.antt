@@ -1,7 +1,6 @@
 -- A run, step after step.
 use Rattle.std.proofs.Common.{◌≡◌, ◌<◌, ◌≤◌, ◌+◌, ℕ, zero, suc, List, [], ◌∷◌, ◌++◌, map, take, length, get_or, refl, sym, ap, ◌∙◌, subst, arith}
-use Rattle.std.specs.Prelude.{Result, Ok, Err, IfErr, IfOk}
-use Rattle.std.specs.declared.vec.Vec.{Vec}
+use Rattle.std.specs.Prelude.{Result, Ok, Err, IfErr, OnOk}
 use Rattle.std.specs.Result.{IsErrAnd}
 use Rattle.std.specs.List.{AllByRecursion}
 use Rattle.std.proofs.lemmas.List.{map-append, take_more}
@@ -12,14 +11,16 @@ use Rattle.step_script.specs.declared.row.Row.{Row}
 use Rattle.step_script.specs.RowViews.{step_row_as}
 use Rattle.step_script.specs.declared.step.Step as code_step
 use Rattle.step_script.specs.Steps.{step_as}
+use Rattle.step_script.specs.Texts.{HasRows}
+use Rattle.step_script.specs.declared.text.StepText.{StepText}
 use Rattle.router_steps.specs.declared.error.StepError.{StepError}
 use Rattle.router_steps.specs.declared.error.StepError.TheVariants as error
 use Rattle.router_steps.specs.declared.stepper.Stepper.{Stepper}
-use Rattle.router_steps.specs.Runs.{IsStepper, IsAnywhere, IsAtFirst, IsPrinted, IsStop, StepLeads, StopsBy, StepsEndBy}
+use Rattle.router_steps.specs.Runs.{Comes, IsStepper, IsAnywhere, IsAtFirst, IsPrinted, IsStop, StepLeads, StopsBy, StepsEndBy}
 
 -- ---- how far a run has come
-abbrev pub Going : Stepper → List code_step.Step → ℕ → List Row → Stepper → Type 0
-Going old script i rows x = (w : World) → IsStepper w at_first old → (t : State) × Runs w at_first (map step_as (take i script)) (map step_row_as rows) t × IsStepper w t x
+abbrev pub Going : Stepper → List code_step.Step → ℕ → StepText → Stepper → Type 0
+Going old script i text x = (w : World) → IsStepper w at_first old → Comes w (map step_as (take i script)) text x
 
 -- no more events ended than there were steps
 abbrev pub IsEarly : ℕ → Stepper → Type 0
@@ -69,19 +70,18 @@ parted [] i x less e = absurd (omega (arith, less))
 parted (y ∷ script) zero x less e = (map step_as script, ap (λ (z : code_step.Step). step_as z ∷ map step_as script) (sym e))
 parted (y ∷ script) (suc i) x less e = let p = parted script i x (omega (arith, less)) e in (p.0, ap (λ (L : List Step). step_as y ∷ L) p.1)
 
-pub going_first : (x : Stepper) (script : List code_step.Step) (rows : List Row) → rows ≡ [] → Going x script 0 rows x
-going_first x script rows none w h = (at_first, subst (λ (L : List Row). Runs w at_first [] (map step_row_as L) at_first) (sym none) (no_steps w at_first), h)
+pub going_first : (x : Stepper) (script : List code_step.Step) (text : StepText) → HasRows [] text → Going x script 0 text x
+going_first x script text none w h = ([], at_first, no_steps w at_first, h, none)
 
-pub going_on : (old x y : Stepper) (script : List code_step.Step) (i : ℕ) (rows more : List Row) (step : code_step.Step) (row : Row) → i < length script → step ≡ get_or script i step → more ≡ rows ++ row ∷ [] → ((w : World) (s : State) → IsStepper w s x → StepLeads w s (step_as step) (step_row_as row) y) → Going old script i rows x → Going old script (i + 1) more y
-going_on old x y script i rows more step row less e new takes so_far w h =
+pub going_on : (old x y : Stepper) (script : List code_step.Step) (i : ℕ) (text more : StepText) (step : code_step.Step) (row : Row) → i < length script → step ≡ get_or script i step → ((rows : List StepRow) → HasRows rows text → HasRows (rows ++ step_row_as row ∷ []) more) → ((w : World) (s : State) → IsStepper w s x → StepLeads w s (step_as step) (step_row_as row) y) → Going old script i text x → Going old script (i + 1) more y
+going_on old x y script i text more step row less e put takes so_far w h =
     let g = so_far w h in
-    let l = takes w g.0 g.2 in
+    let l = takes w g.1 g.3 in
     let steps : map step_as (take (i + 1) script) ≡ map step_as (take i script) ++ step_as step ∷ [] = ap (map step_as) (take_more script i step less ∙ ap (λ (z : code_step.Step). take i script ++ z ∷ []) (sym e)) ∙ map-append step_as (take i script) (step ∷ []) in
-    let told : map step_row_as more ≡ map step_row_as rows ++ step_row_as row ∷ [] = ap (map step_row_as) new ∙ map-append step_row_as rows (row ∷ []) in
-    (l.0, subst (λ (L : List Step). Runs w at_first L (map step_row_as more) l.0) (sym steps) (subst (λ (L : List StepRow). Runs w at_first (map step_as (take i script) ++ step_as step ∷ []) L l.0) (sym told) (one_more w at_first (map step_as (take i script)) (map step_row_as rows) g.0 (step_as step) (step_row_as row) l.0 g.1 l.1)), l.2)
+    (g.0 ++ step_row_as row ∷ [], l.0, subst (λ (L : List Step). Runs w at_first L (g.0 ++ step_row_as row ∷ []) l.0) (sym steps) (one_more w at_first (map step_as (take i script)) g.0 g.1 (step_as step) (step_row_as row) l.0 g.2 l.1), l.2, put g.0 g.4)
 
-pub went : (old x : Stepper) (script : List code_step.Step) (i : ℕ) (rows : List Row) → length script ≤ i → Going old script i rows x → (w : World) → IsStepper w at_first old → (t : State) × Runs w at_first (map step_as script) (map step_row_as rows) t × IsStepper w t x
-went old x script i rows all so_far w h = let g = so_far w h in (g.0, subst (λ (L : List code_step.Step). Runs w at_first (map step_as L) (map step_row_as rows) g.0) (whole script i all) g.1, g.2)
+pub went : (old x : Stepper) (script : List code_step.Step) (i : ℕ) (text : StepText) → length script ≤ i → Going old script i text x → (w : World) → IsStepper w at_first old → Comes w (map step_as script) text x
+went old x script i text all so_far w h = subst (λ (L : List code_step.Step). Comes w (map step_as L) text x) (whole script i all) (so_far w h)
   where
     whole : (script : List code_step.Step) (i : ℕ) → length script ≤ i → take i script ≡ script
     whole [] zero all = refl
@@ -89,18 +89,18 @@ went old x script i rows all so_far w h = let g = so_far w h in (g.0, subst (λ 
     whole (y ∷ script) zero all = absurd (omega (arith, all))
     whole (y ∷ script) (suc i) all = ap (λ (L : List code_step.Step). y ∷ L) (whole script i (omega (arith, all)))
 
-pub stopped : (old x y : Stepper) (script : List code_step.Step) (i : ℕ) (rows : List Row) (step : code_step.Step) (e : StepError) → i < length script → step ≡ get_or script i step → ((w : World) (s : State) → IsStepper w s x → StopsBy w s (step_as step) e × IsStepper w s y) → Going old script i rows x → (w : World) → IsStepper w at_first old → StepsEndBy w (map step_as script) e × IsAnywhere y
-stopped old x y script i rows step e less is stops so_far w h =
+pub stopped : (old x y : Stepper) (script : List code_step.Step) (i : ℕ) (text : StepText) (step : code_step.Step) (e : StepError) → i < length script → step ≡ get_or script i step → ((w : World) (s : State) → IsStepper w s x → StopsBy w s (step_as step) e × IsStepper w s y) → Going old script i text x → (w : World) → IsStepper w at_first old → StepsEndBy w (map step_as script) e × IsAnywhere y
+stopped old x y script i text step e less is stops so_far w h =
     let g = so_far w h in
     let p = parted script i step less is in
-    let z = stops w g.0 g.2 in
-    (subst (λ (L : List Step). StepsEndBy w L e) (sym p.1) (ends_at w (map step_as (take i script)) p.0 (map step_row_as rows) g.0 (step_as step) e g.1 z.0), (w, g.0, z.1))
+    let z = stops w g.1 g.3 in
+    (subst (λ (L : List Step). StepsEndBy w L e) (sym p.1) (ends_at w (map step_as (take i script)) p.0 g.0 g.1 (step_as step) e g.2 z.0), (w, g.1, z.1))
 
 -- memory ran out for a row
-pub no_memory : (old x y : Stepper) (script : List code_step.Step) (i : ℕ) (rows : List Row) (step : Step) (row : StepRow) → ((w : World) (s : State) → IsStepper w s x → StepLeads w s step row y) → Going old script i rows x → (w : World) → IsStepper w at_first old → Unit {0} × IsAnywhere y
-no_memory old x y script i rows step row takes so_far w h =
+pub no_memory : (old x y : Stepper) (script : List code_step.Step) (i : ℕ) (text : StepText) (step : Step) (row : StepRow) → ((w : World) (s : State) → IsStepper w s x → StepLeads w s step row y) → Going old script i text x → (w : World) → IsStepper w at_first old → Unit {0} × IsAnywhere y
+no_memory old x y script i text step row takes so_far w h =
     let g = so_far w h in
-    let l = takes w g.0 g.2 in
+    let l = takes w g.1 g.3 in
     (tt, (w, l.0, l.2))
 
 -- ---- the error that is handed on
@@ -109,9 +109,9 @@ err_is (Ok a) x P h p = tt
 err_is (Err e) x P h p = subst P (sym h) p
 
 -- ---- a stepper is somewhere after its run, however it ended
-pub somewhere : {X : Type 0} (script : List Step) (old new : Stepper) (made : Result (Vec Row X) StepError) → IsAtFirst old
-    → IfOk made (λ rows. (w : World) → IsStepper w at_first old → (t : State) × Runs w at_first script (map step_row_as rows.items) t × IsStepper w t new)
+pub somewhere : (script : List Step) (old new : Stepper) (text : StepText) (made : Result Unit StepError) → IsAtFirst old
+    → OnOk made ((w : World) → IsStepper w at_first old → Comes w script text new)
     → IfErr made (λ e. (w : World) → IsStepper w at_first old → StepsEndBy w script e × IsAnywhere new)
     → IsAnywhere new
-somewhere script old new (Ok rows) s runs stops = let r = runs s.0 s.1 in (s.0, r.0, r.2)
-somewhere script old new (Err e) s runs stops = (stops s.0 s.1).1
+somewhere script old new text (Ok u) s runs stops = let r = runs s.0 s.1 in (s.0, r.1, r.3)
+somewhere script old new text (Err e) s runs stops = (stops s.0 s.1).1

@@ -18,11 +18,10 @@ use Rattle.route_tries.specs.Sizes.{Sizes}
 use Rattle.fib_engine.specs.Held.{EngineState, engine_routes}
 use Rattle.fib_engine.specs.Numbers.{brought_by}
 use Rattle.fib_engine.specs.Stands.{EngineStands, TakesElem, routes_after}
-use Rattle.fib_engine.specs.Turns.{front_of, taken_of}
 use Rattle.step_script.specs.Machine.{World}
 use Rattle.router_steps.specs.Engine.{IsEngineAt}
 use Rattle.router_steps.specs.Hops.{told_at}
-use Rattle.router_steps.specs.World.{changed_next, held_after, steps_world, world_hops}
+use Rattle.router_steps.specs.World.{front_of, taken_of, changed_next, held_after, steps_world, world_hops}
 use Rattle.router_steps.proofs.Numbered.{answer_at_most, hop_stays, le_or, more_hops, told_by, told_none}
 
 -- ---- lists

@@ -18,12 +18,10 @@ use Rattle.kept_model.specs.Patched.{with_route}
 use Rattle.orig_tree.specs.Views.{InPlace}
 use Rattle.route_tries.specs.Sizes.{Sizes}
 use Rattle.fib_engine.specs.Numbers.{number_or_none}
-use Rattle.fib_engine.specs.Turns.{taken_of, front_of, elem_turn, turns_of}
 use Rattle.fib_engine.proofs.Holding.{stays_all, stays_out, turned as routed}
 use Rattle.fib_engine.proofs.Taking.{not_other, some_new}
-use Rattle.fib_engine.proofs.Turning.{chosen_numbered_in}
-use Rattle.step_script.specs.Turns.{AreTurns, Turn, entries_in, turn_at, turned}
-use Rattle.router_steps.specs.World.{changed_next, world_hops, steps_world}
+use Rattle.router_steps.proofs.Turns.{AreTurns, Turn, chosen_numbered_in, elem_turn, entries_in, turn_at, turned, turns_of}
+use Rattle.router_steps.specs.World.{front_of, taken_of, changed_next, world_hops, steps_world}
 
 -- ---- one elementary event
 

@@ -15,7 +15,7 @@ use Rattle.kept_model.proofs.Outside.{routes_outside}
 use Rattle.fib_addr.specs.Answers.{all_answers}
 use Rattle.poptrie_set.specs.Prepares.{AgreeOutside}
 use Rattle.step_script.specs.Machine.{World, changes_family}
-use Rattle.step_script.specs.Turns.{Turn, AreTurns, turn_at, turned, entries_in}
+use Rattle.router_steps.proofs.Turns.{Turn, AreTurns, turn_at, turned, entries_in}
 use Rattle.router_steps.specs.Paused.{IsWorld}
 
 -- ---- answers are told by the family's entries

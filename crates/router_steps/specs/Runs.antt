@@ -14,7 +14,9 @@ use Rattle.fib_router.specs.declared.router.Begun as code_begun
 use Rattle.step_script.specs.Script.{Step, opens, goes, prepares, stores, ends, cancels}
 use Rattle.step_script.specs.Rows.{StepRow}
 use Rattle.step_script.specs.Machine as machine
-use Rattle.step_script.specs.Machine.{World, State, Lookup, Takes, words, IsHopsFull, IsTrieFull, ComesTo, at_first}
+use Rattle.step_script.specs.Machine.{World, State, Lookup, Takes, Runs, words, IsHopsFull, IsTrieFull, ComesTo, at_first}
+use Rattle.step_script.specs.Texts.{HasRows}
+use Rattle.step_script.specs.declared.text.StepText.{StepText}
 use Rattle.router_steps.specs.Engine.{IsEngineAt}
 use Rattle.router_steps.specs.Paused.{FamilyLive, IsAt}
 use Rattle.router_steps.specs.Upcoming.{at_hand, to_come}
@@ -77,6 +79,10 @@ IsAtFirst x = (w : World) × IsStepper w at_first x
 -- the step may have this row, after which the stepper is in the state that follows
 abbrev pub StepLeads : World → State → Step → StepRow → Stepper → Type 0
 StepLeads w s step row x = (t : State) × Takes w s step row t × IsStepper w t x
+
+-- a run of these steps comes to such a state, and the text is that of its rows
+abbrev pub Comes : World → List Step → StepText → Stepper → Type 0
+Comes w steps text x = (rows : List StepRow) × (t : State) × Runs w at_first steps rows t × IsStepper w t x × HasRows rows text
 
 -- ---- steps
 -- the printed number of a look-up that goes on is below 128

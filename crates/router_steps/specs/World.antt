@@ -1,13 +1,21 @@
 -- The world that a load and updates make: what a run in steps may be a run of.
-use Rattle.std.specs.Prelude.{ℕ, List, [], ◌∷◌, ◌++◌, Option, None, is_some, length, take, drop}
+use Rattle.std.specs.Prelude.{ℕ, ◌-◌, List, [], ◌∷◌, ◌++◌, Option, Some, None, is_some, length, take, drop}
 use Rattle.table_model.specs.Address.{Address, Prefix}
 use Rattle.route_model.specs.Events.{Elem}
 use Rattle.route_model.specs.Choice.{Candidates, after_elems}
 use Rattle.kept_model.specs.Feed.{entries_of, full_at, hops_after}
 use Rattle.kept_model.specs.Kept.{changed_at}
 use Rattle.route_tries.specs.Sizes.{Sizes}
-use Rattle.fib_engine.specs.Turns.{taken_of}
 use Rattle.step_script.specs.Machine.{World}
+
+-- the elementary events before the one, counted from 1, that brings one hop too many; all of them where none does
+abbrev pub front_of : Option ℕ → List Elem → List Elem
+front_of None elems = elems
+front_of (Some n) elems = take (n - 1) elems
+
+-- those of the updates that are taken after the load: all before the one that brings one hop too many
+abbrev pub taken_of : (load updates : List Elem) → List Elem
+taken_of load updates = front_of (full_at (hops_after [] load) updates) updates
 
 -- the candidates after the load and so many of the updates
 abbrev pub held_after : (load updates : List Elem) → ℕ → Candidates

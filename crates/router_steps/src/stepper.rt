@@ -1,20 +1,21 @@
 //! The steps.
 
-ghost use Rattle.std.specs.Prelude.{◌≡◌, ◌<◌, ◌+◌, ◌^◌, [], List, None, Some, IfErr, IfOk, IfSome, map, option_map};
+ghost use Rattle.std.specs.Prelude.{◌≡◌, ◌<◌, ◌+◌, ◌^◌, [], List, None, Some, IfErr, IfOk, IfSome, OnOk, map, option_map};
 ghost use Rattle.route_model.specs.Events.{Elem as model_elem, elem_prefix};
 ghost use Rattle.fib_addr.specs.Views.{addr_as};
 ghost use Rattle.fib_prefix.specs.Views.{elem_as, event_as};
 ghost use Rattle.fib_engine.specs.Stands.{EngineStands};
 ghost use Rattle.fib_router.specs.Router.{IsBegunIn};
 ghost use Rattle.poptrie_update.specs.Cursors.{IsFirst};
-ghost use Rattle.step_script.specs.Machine.{World, State, Runs, at_first};
+ghost use Rattle.step_script.specs.Machine.{World, State, at_first};
 ghost use Rattle.step_script.specs.Rows.{printed_number};
 ghost use Rattle.step_script.specs.RowViews.{step_row_as};
 ghost use Rattle.step_script.specs.Script.{opens, goes, prepares, stores, ends, cancels};
 ghost use Rattle.step_script.specs.Steps.{step_as};
+ghost use Rattle.step_script.specs.Texts.{HasRows};
 ghost use Rattle.router_steps.specs.Calls.{open_row, store_row};
 ghost use Rattle.router_steps.specs.Hops.{arena_family, arena_within, brought_at, brought_in, read_row, told_at};
-ghost use Rattle.router_steps.specs.Runs.{ArePrinted, IsAnywhere, IsAtFirst, IsPrinted, IsStepper, IsStop, StepLeads, StepsEndBy, StopsBy, cursors_in};
+ghost use Rattle.router_steps.specs.Runs.{ArePrinted, Comes, IsAnywhere, IsAtFirst, IsPrinted, IsStepper, IsStop, StepLeads, StepsEndBy, StopsBy, cursors_in};
 ghost use Rattle.router_steps.specs.Stepping.{world_of};
 ghost use Rattle.router_steps.specs.Upcoming.{IsNextIn};
 
@@ -27,7 +28,7 @@ use poptrie_build::TrieFull;
 use poptrie_set::crowded_law;
 use poptrie_update::{Cursors, CursorsFull, NotOpen};
 use std::alloc::{AllocError, Global};
-use step_script::{Row, Step};
+use step_script::{Row, Step, StepText};
 
 /// The engine with its live tries, the lookups that are open in them, the events that are still to come, and the one that is begun.
 pub struct Stepper<'a> {
@@ -357,24 +358,41 @@ impl<'a> Stepper<'a> {
         }
     }
 
-    /// Makes the steps of a script, in their order: the row of each.
+    /// Makes the steps of a script, in their order, and writes the row of each to a text that has none yet.
     ///
     /// # Errors
     ///
     /// As `step`'s, or memory runs out for the rows.
-    pub fn run(&mut self, alloc: Global, script: &[Step]) -> Result<Vec<Row>, StepError>
+    pub fn run(&mut self, script: &[Step], text: &mut StepText) -> Result<(), StepError>
         requires printed { ArePrinted (map step_as script.now) }
         requires at_first { IsAtFirst self.old }
-        ensures runs { IfOk result (λ rows. (w : World) → IsStepper w at_first self.old → (t : State)
-            × Runs w at_first (map step_as script.now) (map step_row_as rows.items) t × IsStepper w t self.new) }
+        requires empty { HasRows [] text.old }
+        ensures runs { OnOk result ((w : World) → IsStepper w at_first self.old
+            → Comes w (map step_as script.now) text.new self.new) }
         ensures stops { IfErr result (λ e. (w : World) → IsStepper w at_first self.old
             → StepsEndBy w (map step_as script.now) e × IsAnywhere self.new) }
     {
-        let mut rows = Vec::new(alloc);
         for step in script {
             let row = self.step(step)?;
-            rows.push(row)?;
+            text.put(row)?;
         }
-        Ok(rows)
+        Ok(())
+    }
+
+    /// Is done with the run: an event that is begun makes the stores that are left, and ends.
+    pub fn close(self)
+        requires { IsAnywhere self }
+    {
+        let Stepper {
+            mut router,
+            v4: _,
+            v6: _,
+            upcoming: _,
+            ended: _,
+            begun,
+        } = self;
+        if let Some(begun) = begun {
+            let _changes = router.finish(begun);
+        }
     }
 }

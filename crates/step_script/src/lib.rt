@@ -16,4 +16,4 @@ pub use printed_text::BadRow;
 pub use row::Row;
 pub use script::{ScriptError, read_script};
 pub use step::{Step, read_step};
-pub use text::rows_text;
+pub use text::StepText;

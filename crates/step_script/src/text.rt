@@ -8,10 +8,10 @@
 //!
 //! LOOKUP is the number of a look-up, HOP the hop's address or `none`.
 
-ghost use Rattle.std.specs.Prelude.{◌≡◌, ◌∷◌, [], codes, decimal, map, option_map, IfOk, OnOk};
+ghost use Rattle.std.specs.Prelude.{◌≡◌, ◌∷◌, ◌++◌, ◌+◌, ◌<◌, ◌^◌, List, [], codes, decimal, option_map, IfOk, OnOk};
 ghost use Rattle.fib_addr.specs.Views.{addr_as};
 ghost use Rattle.printed_text.specs.Rows.{hop_text, line};
-ghost use Rattle.step_script.specs.Rows.{row_line, rows_text};
+ghost use Rattle.step_script.specs.Rows.{StepRow, row_line, rows_text};
 ghost use Rattle.fib_report.specs.Writing.{AddsRows, IsAtRow};
 ghost use Rattle.step_script.specs.RowViews.{step_row_as};
 
@@ -96,15 +96,55 @@ fn put_row<W: Write + Drop>(out: &mut Writer<W>, step: u64, row: Row) -> Result<
     }
 }
 
-/// The text of the rows of steps that are numbered from 1. An `Err` means that memory ran out.
-pub fn rows_text(alloc: Global, rows: &[Row]) -> Result<Vec<u8>, AllocError>
-    ensures { IfOk result (λ text. text.items ≡ rows_text 1 (map step_row_as rows.now)) }
-{
-    let mut out = row_writer(alloc);
-    let mut step = 0;
-    for row in rows {
-        step += 1;
-        put_row(&mut out, step, *row)?;
+/// The text of the rows of steps so far, which are numbered from 1. After an `Err`, which means that memory ran out, nothing more is to be
+/// written to it.
+#[derive(Drop)]
+pub struct StepText {
+    out: Writer<Vec<u8>>,
+    steps: u64,
+}
+
+impl StepText {
+    ghost use Rattle.step_script.specs.Texts.{HasRows};
+
+    /// No row yet.
+    pub fn new(alloc: Global) -> StepText
+        ensures rows { HasRows [] result }
+        ensures steps { result.steps ≡ 0 }
+    {
+        StepText {
+            out: row_writer(alloc),
+            steps: 0,
+        }
     }
-    out.into_inner().map_err(|_| AllocError)
+
+    /// Writes the row of the next step.
+    ///
+    /// # Errors
+    ///
+    /// No memory.
+    pub fn put(&mut self, row: Row) -> Result<(), AllocError>
+        requires few { self.old.steps + 1 < 2 ^ 64 }
+        requires so_far { (rows : List StepRow) × HasRows rows self.old }
+        ensures rows { OnOk result ((rows : List StepRow) → HasRows rows self.old
+            → HasRows (rows ++ step_row_as row ∷ []) self.new) }
+        ensures steps { OnOk result (self.new.steps ≡ self.old.steps + 1) }
+    {
+        let step = self.steps + 1;
+        put_row(&mut self.out, step, row)?;
+        self.steps = step;
+        Ok(())
+    }
+
+    /// The text.
+    ///
+    /// # Errors
+    ///
+    /// No memory.
+    pub fn finish(self) -> Result<Vec<u8>, AllocError>
+        ensures { IfOk result (λ text. (rows : List StepRow) → HasRows rows self
+            → text.items ≡ rows_text 1 rows) }
+    {
+        self.out.into_inner().map_err(|_| AllocError)
+    }
 }

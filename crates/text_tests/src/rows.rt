@@ -1,8 +1,18 @@
 //! Rows and their text.
 
 use fib_addr::Addr;
+use std::alloc::{AllocError, Global};
 use std::test::Fail;
-use step_script::{Row, rows_text};
+use step_script::{Row, StepText};
+
+/// The text of these rows.
+fn text_of(alloc: Global, rows: &[Row]) -> Result<Vec<u8>, AllocError> {
+    let mut text = StepText::new(alloc);
+    for row in rows {
+        text.put(*row)?;
+    }
+    text.finish()
+}
 
 #[test]
 fn rows_are_numbered_from_one(rt: HostRuntime) -> Result<(), Fail> {
@@ -39,7 +49,7 @@ fn rows_are_numbered_from_one(rt: HostRuntime) -> Result<(), Fail> {
         rows.push(*row)?;
         let line = format!(in alloc; "step,{},{fields}\n", place + 1)?;
         expected.push_str(&line)?;
-        let text = rows_text(alloc, &rows)?;
+        let text = text_of(alloc, &rows)?;
         assert_eq!(rt; text.as_slice(), expected.as_bytes());
     }
     Ok(())

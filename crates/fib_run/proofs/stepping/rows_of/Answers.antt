@@ -2,8 +2,8 @@ use Rattle.std.proofs.Common.{ℕ, Err, [], ◌∷◌, map, sym, subst, ◌∙�
 use Rattle.std.proofs.lemmas.Result.{err_from_is_err_and}
 use Rattle.fib_prefix.specs.Views.{event_as}
 use Rattle.step_script.specs.Steps.{step_as}
-use Rattle.step_run.specs.Stepping.{IsTextOf, world_of}
-use Rattle.stepper.specs.Runs.{StepsEndBy}
+use Rattle.router_steps.specs.Stepping.{IsTextOf, world_of}
+use Rattle.router_steps.specs.Runs.{StepsEndBy}
 use Rattle.fib_words.specs.Commands.{Steps, steps_as}
 use Rattle.fib_due.specs.declared.outcome.Which.TheVariants as which
 use Rattle.fib_due.specs.Due.{load_at, steps_sizes, with_world, world_at}
@@ -56,9 +56,6 @@ returns-in_err-events-clause-cause g c =
 pub run_steps-requires-clause-stands : goal.run_steps-requires-clause-stands
 run_steps-requires-clause-stands g c = let load = c.in_ok-engine.ensures.due in (load.0.elems, load.1)
 
-pub run_steps-requires-clause-sizes : goal.run_steps-requires-clause-sizes
-run_steps-requires-clause-sizes g c = let load = c.in_ok-engine.ensures.due in load.2 ∙ sym c.sizes_of.ensures
-
 pub returns-in-Ok-clause-gives : goal.returns-in-Ok-clause-gives
 returns-in-Ok-clause-gives g c =
     let named = steps_as c.args.command.now in
@@ -68,7 +65,7 @@ returns-in-Ok-clause-gives g c =
     let events = map event_as c.in_ok-events.events.items in
     let text = rw c.deref.ensures.value at (c.in-Ok.ensures.text load.0.elems load.1) in
     text_due _ script (world_at (g.I.Inputs.content c.args.inputs.now) named) _ c.in-Ok.text (world_due _ named load.0 events load.3 later)
-    (subst (λ z. IsTextOf (record { script = script; world = world_of z load.0.elems events }) c.in-Ok.text.items) c.sizes_of.ensures text)
+    (subst (λ z. IsTextOf (record { script = script; world = world_of z load.0.elems events }) c.in-Ok.text.items) load.2 text)
 
 pub returns-clause-gives : goal.returns-clause-gives
 returns-clause-gives g c =
@@ -79,7 +76,7 @@ returns-clause-gives g c =
     let events = map event_as c.in_ok-events.events.items in
     let w = world_of (steps_sizes named) load.0.elems events in
     let ends = rw c.deref.ensures.value at (c.in-Err.ensures.stops load.0.elems load.1) in
-    let early = early_of script w c.in-Err.error (subst (λ z. StepsEndBy (world_of z load.0.elems events) script c.in-Err.error) c.sizes_of.ensures ends) in
+    let early = early_of script w c.in-Err.error (subst (λ z. StepsEndBy (world_of z load.0.elems events) script c.in-Err.error) load.2 ends) in
     let due = world_at (g.I.Inputs.content c.args.inputs.now) named in
     subst (λ o. GivesText {X = ℕ} (with_world script due) (Err o)) (sym c.outcome_of_step.ensures) (early_due ℕ script due w (of_step c.in-Err.error) (world_due _ named load.0 events load.3 later) (is_of_step c.in-Err.error) early)
 

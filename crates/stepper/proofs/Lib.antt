@@ -1,9 +1,0 @@
-pub mod Worlds
-pub mod Halves
-pub mod Looking
-pub mod Assembled
-pub mod Events
-pub mod Preparing
-pub mod Starting
-pub mod Running
-pub mod Finishing
