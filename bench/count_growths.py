@@ -3,8 +3,8 @@
 
 Usage:  count_growths.py PROGRAM
 
-Of the steps of a script `prepare` alone may ask for memory, and lists of steps and rows, which grow by doubling. So a run asks for a block
-as often as the same run in which each other step is one that does nothing. Needs a C compiler (cc) and the GNU C library; bench/refuse.c
+Of the steps of a script `prepare` alone may ask for memory, beside the list of steps and the text of rows, which grow by doubling. So a run
+asks for a block as often as the same run in which each other step is one that does nothing. Needs a C compiler (cc) and the GNU C library; bench/refuse.c
 counts. The status is 1 if a run asks more often, or can't be made."""
 
 import os
