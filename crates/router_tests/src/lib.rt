@@ -1,5 +1,0 @@
-//! What a router offers, tested: of its own, since a crate with tests is proved twice.
-#![tactic(auto)]
-
-#[cfg(test)]
-mod router;
