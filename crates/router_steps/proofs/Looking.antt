@@ -27,7 +27,7 @@ use Rattle.step_script.specs.Machine as machine
 use Rattle.step_script.specs.Machine.{World, State, Lookup, Goes, Names, Opens, version_of, with_lookup}
 use Rattle.router_steps.specs.Calls.{GoesTo, open_row}
 use Rattle.router_steps.specs.Engine.{IsEngineAt}
-use Rattle.router_steps.specs.Hops.{brought_in, read_row, told_at}
+use Rattle.router_steps.specs.Hops.{brought_in, read_row, told_hop}
 use Rattle.router_steps.specs.Paused.{FamilyLive, IsAt}
 use Rattle.router_steps.specs.Runs.{HasSeen, IsBegunAs, IsStepper, StepLeads, cursors_in, family_live, seen_by}
 use Rattle.router_steps.specs.Upcoming.{to_come}
@@ -88,16 +88,16 @@ opened_now {E} w s x f a after r fam fits started none h =
     by (Err e) t op at = moved_in w s t x f after (unmoved f s t op.1) at (subst HasSeen (sym op.1) h.seen) h
 
 -- ---- a lookup goes on
-told_by : (w : World) (s : State) (x : Stepper) (v : ℕ) (a : Address) → IsStepper w s x → v ≤ seen_by s.ended s.begun → hop_at w.hops (match_in (w.routes v) a) ≡ told_at x.router.held.hops (brought_in x.begun) (match_in (w.routes v) a)
+told_by : (w : World) (s : State) (x : Stepper) (v : ℕ) (a : Address) → IsStepper w s x → v ≤ seen_by s.ended s.begun → hop_at w.hops (match_in (w.routes v) a) ≡ told_hop x.router.held.hops (brought_in x.begun) (match_in (w.routes v) a)
 told_by w s x v a h le = by x.begun refl
   where
-    by : (o : Option Begun) → x.begun ≡ o → hop_at w.hops (match_in (w.routes v) a) ≡ told_at x.router.held.hops (brought_in o) (match_in (w.routes v) a)
+    by : (o : Option Begun) → x.begun ≡ o → hop_at w.hops (match_in (w.routes v) a) ≡ told_hop x.router.held.hops (brought_in o) (match_in (w.routes v) a)
     by None e = told_now w s.ended x.router.held _ h.engine v (subst (λ (o : Option machine.Begun). v ≤ seen_by s.ended o) (quiet_of w s x e h) le) a
     by (Some b) e =
         let k = event_of w s x b e h in
         let few : v ≤ seen_by s.ended (Some k.0) = subst (λ (o : Option machine.Begun). v ≤ seen_by s.ended o) k.1 le in
         next_told w s.ended x.router.held _ h.engine (begun_elem b) _ (ap (λ (es : List Elem). es ++ elems_after (after_elems x.router.held.candidates es) (map event_as x.upcoming.events.now)) k.2.next) k.2.few v (omega (arith, few, most_seen s.ended k.0)) a
-        ∙ ap (λ o. told_at x.router.held.hops o (match_in (w.routes v) a)) (sym k.2.brings)
+        ∙ ap (λ o. told_hop x.router.held.hops o (match_in (w.routes v) a)) (sym k.2.brings)
 
 held_same : (o : Option Lookup) (a b : Lookup) → o ≡ Some a → o ≡ Some b → a ≡ b
 held_same o a b p q = cc
@@ -118,7 +118,7 @@ module _ (w : World) (s : State) (x : Stepper) (f : Family) (n c : ℕ) (after :
       let told = told_by w s x (version_of w s v.0) v.0.addr h (version_seen w s f n v.0 h.seen v.1) in
       let same : g.0 ≡ v.0 = held_same (s.lookups f n) g.0 v.0 g.1 v.1 in
       let number : hop.0 ≡ match_in (w.routes (version_of w s v.0)) v.0.addr = g.2 ∙ ap (λ (k : Lookup). match_in (w.routes (version_of w s k)) k.addr) same in
-      let row : told_at x.router.held.hops (brought_in x.begun) hop.0 ≡ hop_at w.hops (match_in (w.routes (version_of w s v.0)) v.0.addr) = ap (told_at x.router.held.hops (brought_in x.begun)) number ∙ sym told in
+      let row : told_hop x.router.held.hops (brought_in x.begun) hop.0 ≡ hop_at w.hops (match_in (w.routes (version_of w s v.0)) v.0.addr) = ap (told_hop x.router.held.hops (brought_in x.begun)) number ∙ sym told in
       (t, (f, n, names, (printed, (v.0, v.1, v.2, row, v.4))), moved_in w s t x f after (moved f n _ s t v.4) at (subst HasSeen (sym v.4) (answered_seen s f n h.seen)) h)
   gone_by (Err e) t g at = (t, (f, n, names, (printed, g.1, g.2)), moved_in w s t x f after (unmoved f s t g.2) at (subst HasSeen (sym g.2) h.seen) h)
 

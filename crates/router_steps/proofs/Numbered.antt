@@ -19,7 +19,7 @@ use Rattle.fib_addr.specs.Hops.{hop_at, number_of, with_hop}
 use Rattle.fib_addr.proofs.HopLists.{brought_number, number_holds, number_range}
 use Rattle.table_model.proofs.SamePrefix.{same_address_itself}
 use Rattle.fib_engine.specs.Numbers.{brought_by}
-use Rattle.router_steps.specs.Hops.{told_at}
+use Rattle.router_steps.specs.Hops.{told_hop}
 
 -- ---- numbers stay
 with_more : (hops : List Address) (a : Address) → length hops ≤ length (with_hop hops a)
@@ -134,7 +134,7 @@ held_at hops a (suc k) e = held_in hops a k e
 
 module _ (hops : List Address) (a : Address) where
   abbrev Told : Option ℕ → List Address → ℕ → Type 0
-  Told o later h = hop_at later h ≡ told_at hops (cond (is_some o) None (option_map (λ n. (n, a)) (number_of later a))) h
+  Told o later h = hop_at later h ≡ told_hop hops (cond (is_some o) None (option_map (λ n. (n, a)) (number_of later a))) h
 
   told_held : list_any (same_address a) hops ≡ true → (h : ℕ) → Told (number_of hops a) (with_hop hops a) h
   told_held t h =
@@ -157,7 +157,7 @@ module _ (hops : List Address) (a : Address) where
       let number : number_of (hops ++ a ∷ []) a ≡ Some (length hops + 1) = m ∙ ap (λ (k : ℕ). Some k) last in
       subst (λ (l : List Address). Told (number_of hops a) l h) (sym w)
       (subst (λ (o : Option ℕ). Told o (hops ++ a ∷ []) h) (sym (no_number t (number_of hops a) refl))
-      (subst (λ (o : Option ℕ). hop_at (hops ++ a ∷ []) h ≡ told_at hops (option_map (λ n. (n, a)) o) h) (sym number) (at_pushed hops a h)))
+      (subst (λ (o : Option ℕ). hop_at (hops ++ a ∷ []) h ≡ told_hop hops (option_map (λ n. (n, a)) o) h) (sym number) (at_pushed hops a h)))
     where
       last_of : (k : ℕ) → hop_at (hops ++ a ∷ []) k ≡ Some a → k ≤ length hops + 1 → k ≡ length hops + 1
       last_of k e l = elim (le_or (length hops) k) [
@@ -173,9 +173,9 @@ module _ (hops : List Address) (a : Address) where
       by_test false t = told_new t h
 
 -- the hop of each number after the event
-pub told_by : (hops : List Address) (e : Elem) (h : ℕ) → hop_at (hops_after hops (e ∷ [])) h ≡ told_at hops (brought_by hops e) h
+pub told_by : (hops : List Address) (e : Elem) (h : ℕ) → hop_at (hops_after hops (e ∷ [])) h ≡ told_hop hops (brought_by hops e) h
 told_by hops (Put via prefix path hop) h = told_put hops hop h
 told_by hops (Cut via prefix) h = none_or (hop_at hops h)
 
-pub told_none : (hops : List Address) (h : ℕ) → hop_at hops h ≡ told_at hops None h
+pub told_none : (hops : List Address) (h : ℕ) → hop_at hops h ≡ told_hop hops None h
 told_none hops h = none_or (hop_at hops h)

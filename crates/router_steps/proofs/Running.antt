@@ -11,7 +11,7 @@ use Rattle.step_script.specs.declared.row.Row.{Row}
 use Rattle.step_script.specs.RowViews.{step_row_as}
 use Rattle.step_script.specs.declared.step.Step as code_step
 use Rattle.step_script.specs.Steps.{step_as}
-use Rattle.step_script.specs.Texts.{HasRows}
+use Rattle.step_script.specs.Texts.{HasWritten}
 use Rattle.step_script.specs.declared.text.StepText.{StepText}
 use Rattle.router_steps.specs.declared.error.StepError.{StepError}
 use Rattle.router_steps.specs.declared.error.StepError.TheVariants as error
@@ -70,10 +70,10 @@ parted [] i x less e = absurd (omega (arith, less))
 parted (y ∷ script) zero x less e = (map step_as script, ap (λ (z : code_step.Step). step_as z ∷ map step_as script) (sym e))
 parted (y ∷ script) (suc i) x less e = let p = parted script i x (omega (arith, less)) e in (p.0, ap (λ (L : List Step). step_as y ∷ L) p.1)
 
-pub going_first : (x : Stepper) (script : List code_step.Step) (text : StepText) → HasRows [] text → Going x script 0 text x
+pub going_first : (x : Stepper) (script : List code_step.Step) (text : StepText) → HasWritten [] text → Going x script 0 text x
 going_first x script text none w h = ([], at_first, no_steps w at_first, h, none)
 
-pub going_on : (old x y : Stepper) (script : List code_step.Step) (i : ℕ) (text more : StepText) (step : code_step.Step) (row : Row) → i < length script → step ≡ get_or script i step → ((rows : List StepRow) → HasRows rows text → HasRows (rows ++ step_row_as row ∷ []) more) → ((w : World) (s : State) → IsStepper w s x → StepLeads w s (step_as step) (step_row_as row) y) → Going old script i text x → Going old script (i + 1) more y
+pub going_on : (old x y : Stepper) (script : List code_step.Step) (i : ℕ) (text more : StepText) (step : code_step.Step) (row : Row) → i < length script → step ≡ get_or script i step → ((rows : List StepRow) → HasWritten rows text → HasWritten (rows ++ step_row_as row ∷ []) more) → ((w : World) (s : State) → IsStepper w s x → StepLeads w s (step_as step) (step_row_as row) y) → Going old script i text x → Going old script (i + 1) more y
 going_on old x y script i text more step row less e put takes so_far w h =
     let g = so_far w h in
     let l = takes w g.1 g.3 in

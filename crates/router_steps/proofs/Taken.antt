@@ -20,7 +20,7 @@ use Rattle.fib_engine.specs.Numbers.{brought_by}
 use Rattle.fib_engine.specs.Stands.{EngineStands, TakesElem, routes_after}
 use Rattle.step_script.specs.Machine.{World}
 use Rattle.router_steps.specs.Engine.{IsEngineAt}
-use Rattle.router_steps.specs.Hops.{told_at}
+use Rattle.router_steps.specs.Hops.{told_hop}
 use Rattle.router_steps.specs.World.{front_of, taken_of, changed_next, held_after, steps_world, world_hops}
 use Rattle.router_steps.proofs.Numbered.{answer_at_most, hop_stays, le_or, more_hops, told_by, told_none}
 
@@ -149,7 +149,7 @@ module _ (w : World) (n : ℕ) (held : EngineState) (rest : List Elem) (at : IsE
         let size : length held.hops ≡ length (hops_after (hops_after [] (at.load ++ front)) back) = ap (λ (hs : List Address). length hs) here in
         omega (arith, few, more, same, size)
 
-    told_at_now : (m : ℕ) → m ≤ n → (a : Address) → hop_at w.hops (match_in (w.routes m) a) ≡ told_at held.hops None (match_in (w.routes m) a)
+    told_at_now : (m : ℕ) → m ≤ n → (a : Address) → hop_at w.hops (match_in (w.routes m) a) ≡ told_hop held.hops None (match_in (w.routes m) a)
     told_at_now m le a =
         let h = match_in (w.routes m) a in
         ap (λ (hs : List Address). hop_at hs h) hops_at ∙ (hop_stays held.hops tail h (few_at m le a) ∙ told_none held.hops h)
@@ -222,7 +222,7 @@ module _ (w : World) (n : ℕ) (held : EngineState) (rest : List Elem) (at : IsE
               let size : length (hops_after held.hops (e ∷ [])) ≡ length (hops_after [] (at.load ++ (at.done ++ e ∷ []))) = ap (λ (hs : List Address). length hs) hops_later in
               omega (arith, answer_at_most (at.load ++ (at.done ++ e ∷ [])) a, same, size)
 
-      pub next_told : (m : ℕ) → m ≤ suc n → (a : Address) → hop_at w.hops (match_in (w.routes m) a) ≡ told_at held.hops (brought_by held.hops e) (match_in (w.routes m) a)
+      pub next_told : (m : ℕ) → m ≤ suc n → (a : Address) → hop_at w.hops (match_in (w.routes m) a) ≡ told_hop held.hops (brought_by held.hops e) (match_in (w.routes m) a)
       next_told m le a =
           let h = match_in (w.routes m) a in
           ap (λ (hs : List Address). hop_at hs h) (hops_at (e ∷ tail) split ∙ hops_more held.hops (e ∷ []) tail)
@@ -285,5 +285,5 @@ module _ (w : World) (n : ℕ) (held : EngineState) (rest : List Elem) (at : IsE
   some_split (e ∷ more) is = next_split e more is (nat_lt most_hops (length (hops_after held.hops (e ∷ [])))) refl
 
   -- where no event is begun
-  pub told_now : (m : ℕ) → m ≤ n → (a : Address) → hop_at w.hops (match_in (w.routes m) a) ≡ told_at held.hops None (match_in (w.routes m) a)
+  pub told_now : (m : ℕ) → m ≤ n → (a : Address) → hop_at w.hops (match_in (w.routes m) a) ≡ told_hop held.hops None (match_in (w.routes m) a)
   told_now m le a = let s = some_split rest refl in told_at_now s.0 s.1 m le a

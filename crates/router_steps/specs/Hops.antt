@@ -18,8 +18,8 @@ brought_at None h = None
 brought_at (Some b) h = cond (nat_eq b.0 h) (Some b.1) None
 
 -- the hop that has this number, or gets it by the event that brings this one
-abbrev pub told_at : List Address → Option (ℕ × Address) → ℕ → Option Address
-told_at hops brings h = option_or (hop_at hops h) (brought_at brings h)
+abbrev pub told_hop : List Address → Option (ℕ × Address) → ℕ → Option Address
+told_hop hops brings h = option_or (hop_at hops h) (brought_at brings h)
 
 -- what the event that is begun brings
 abbrev pub brought_in : Option Begun → Option (ℕ × Address)
@@ -29,7 +29,7 @@ brought_in (Some b) = brought_as (begun_hop b)
 -- the row of a lookup's read
 abbrev pub read_row : {E : Type 0} → List Address → Option (ℕ × Address) → ℕ → Result (Option Hop) E → StepRow
 read_row hops brings c (Ok None) = went_on c
-read_row hops brings c (Ok (Some h)) = answered c (told_at hops brings h.0)
+read_row hops brings c (Ok (Some h)) = answered c (told_hop hops brings h.0)
 read_row hops brings c (Err e) = not_open c
 
 -- ---- an arena of both families' four

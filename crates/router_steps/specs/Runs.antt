@@ -15,7 +15,7 @@ use Rattle.step_script.specs.Script.{Step, opens, goes, prepares, stores, ends, 
 use Rattle.step_script.specs.Rows.{StepRow}
 use Rattle.step_script.specs.Machine as machine
 use Rattle.step_script.specs.Machine.{World, State, Lookup, Takes, Runs, words, IsHopsFull, IsTrieFull, ComesTo, at_first}
-use Rattle.step_script.specs.Texts.{HasRows}
+use Rattle.step_script.specs.Texts.{HasWritten}
 use Rattle.step_script.specs.declared.text.StepText.{StepText}
 use Rattle.router_steps.specs.Engine.{IsEngineAt}
 use Rattle.router_steps.specs.Paused.{FamilyLive, IsAt}
@@ -82,7 +82,7 @@ StepLeads w s step row x = (t : State) × Takes w s step row t × IsStepper w t 
 
 -- a run of these steps comes to such a state, and the text is that of its rows
 abbrev pub Comes : World → List Step → StepText → Stepper → Type 0
-Comes w steps text x = (rows : List StepRow) × (t : State) × Runs w at_first steps rows t × IsStepper w t x × HasRows rows text
+Comes w steps text x = (rows : List StepRow) × (t : State) × Runs w at_first steps rows t × IsStepper w t x × HasWritten rows text
 
 -- ---- steps
 -- the printed number of a look-up that goes on is below 128

@@ -12,9 +12,9 @@ ghost use Rattle.step_script.specs.Rows.{printed_number};
 ghost use Rattle.step_script.specs.RowViews.{step_row_as};
 ghost use Rattle.step_script.specs.Script.{opens, goes, prepares, stores, ends, cancels};
 ghost use Rattle.step_script.specs.Steps.{step_as};
-ghost use Rattle.step_script.specs.Texts.{HasRows};
+ghost use Rattle.step_script.specs.Texts.{HasWritten};
 ghost use Rattle.router_steps.specs.Calls.{open_row, store_row};
-ghost use Rattle.router_steps.specs.Hops.{arena_family, arena_within, brought_at, brought_in, read_row, told_at};
+ghost use Rattle.router_steps.specs.Hops.{arena_family, arena_within, brought_at, brought_in, read_row, told_hop};
 ghost use Rattle.router_steps.specs.Runs.{ArePrinted, Comes, IsAnywhere, IsAtFirst, IsPrinted, IsStepper, IsStop, StepLeads, StepsEndBy, StopsBy, cursors_in};
 ghost use Rattle.router_steps.specs.Stepping.{world_of};
 ghost use Rattle.router_steps.specs.Upcoming.{IsNextIn};
@@ -190,7 +190,7 @@ impl<'a> Stepper<'a> {
 
     /// The hop of a number: that of the routes, or the one that the event that is begun brings.
     fn hop_of(&self, hop: Hop) -> Option<Addr>
-        ensures { option_map addr_as result ≡ told_at self.now.router.held.hops
+        ensures { option_map addr_as result ≡ told_hop self.now.router.held.hops
             (brought_in self.now.begun) hop.0 }
     {
         match self.router.hops().addr(hop) {
@@ -366,7 +366,7 @@ impl<'a> Stepper<'a> {
     pub fn run(&mut self, script: &[Step], text: &mut StepText) -> Result<(), StepError>
         requires printed { ArePrinted (map step_as script.now) }
         requires at_first { IsAtFirst self.old }
-        requires empty { HasRows [] text.old }
+        requires empty { HasWritten [] text.old }
         ensures runs { OnOk result ((w : World) → IsStepper w at_first self.old
             → Comes w (map step_as script.now) text.new self.new) }
         ensures stops { IfErr result (λ e. (w : World) → IsStepper w at_first self.old

@@ -4,7 +4,7 @@ use Rattle.std.specs.Io.KnownBytes.{Appends}
 use Rattle.csv.specs.Writing.{text_written}
 use Rattle.csv.specs.declared.writer.Writer.{Writer}
 use Rattle.step_script.specs.Rows.{StepRow, row_line, rows_text}
-use Rattle.step_script.specs.Texts.{HasRows}
+use Rattle.step_script.specs.Texts.{HasWritten}
 use Rattle.step_script.specs.declared.text.StepText.{StepText}
 use Rattle.fib_report.specs.Writing.{AddsRows}
 

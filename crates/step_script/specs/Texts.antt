@@ -6,7 +6,7 @@ use Rattle.step_script.specs.Rows.{StepRow, rows_text}
 use Rattle.step_script.specs.declared.text.StepText.{StepText}
 
 -- these rows were written to it, and more can be
-pub record HasRows (rows : List StepRow) (t : StepText) : Type 0 where
+pub record HasWritten (rows : List StepRow) (t : StepText) : Type 0 where
   pub at : IsAtRow t.out
   pub text : text_written (λ v. Some v.items) t.out ≡ Some (rows_text 1 rows)
   pub steps : t.steps ≡ length rows

@@ -105,11 +105,11 @@ pub struct StepText {
 }
 
 impl StepText {
-    ghost use Rattle.step_script.specs.Texts.{HasRows};
+    ghost use Rattle.step_script.specs.Texts.{HasWritten};
 
     /// No row yet.
     pub fn new(alloc: Global) -> StepText
-        ensures rows { HasRows [] result }
+        ensures rows { HasWritten [] result }
         ensures steps { result.steps ≡ 0 }
     {
         StepText {
@@ -125,9 +125,9 @@ impl StepText {
     /// No memory.
     pub fn put(&mut self, row: Row) -> Result<(), AllocError>
         requires few { self.old.steps + 1 < 2 ^ 64 }
-        requires so_far { (rows : List StepRow) × HasRows rows self.old }
-        ensures rows { OnOk result ((rows : List StepRow) → HasRows rows self.old
-            → HasRows (rows ++ step_row_as row ∷ []) self.new) }
+        requires so_far { (rows : List StepRow) × HasWritten rows self.old }
+        ensures rows { OnOk result ((rows : List StepRow) → HasWritten rows self.old
+            → HasWritten (rows ++ step_row_as row ∷ []) self.new) }
         ensures steps { OnOk result (self.new.steps ≡ self.old.steps + 1) }
     {
         let step = self.steps + 1;
@@ -142,7 +142,7 @@ impl StepText {
     ///
     /// No memory.
     pub fn finish(self) -> Result<Vec<u8>, AllocError>
-        ensures { IfOk result (λ text. (rows : List StepRow) → HasRows rows self
+        ensures { IfOk result (λ text. (rows : List StepRow) → HasWritten rows self
             → text.items ≡ rows_text 1 rows) }
     {
         self.out.into_inner().map_err(|_| AllocError)
