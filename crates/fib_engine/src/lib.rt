@@ -13,8 +13,7 @@
 //! `Engine::apply` goes through the very same plan, but for an event that changes no chosen hop and that no snapshot follows: it asks
 //! no table.
 //!
-//! Where no more events come an engine settles: the candidates are let go, and what is left is told from the trees. Where only
-//! what events do to the routes is asked for, and no table, an engine leaves its `Turns`.
+//! Where no more events come an engine settles: the candidates are let go, and what is left is told from the trees.
 #![tactic(auto)]
 
 mod engine;
@@ -26,7 +25,6 @@ mod parts;
 mod route_source;
 mod staged;
 mod tables;
-mod turns;
 
 pub use engine::{Engine, Limits};
 pub use error::EngineError;
@@ -34,4 +32,3 @@ pub use final_fib::FinalFib;
 pub use route_tries::{FamilyNeeds, Found, Needs, Sizes, TrieFull, Tries};
 pub use staged::{Planned, Staged};
 pub use tables::EventChanges;
-pub use turns::Turns;
