@@ -5,3 +5,4 @@ pub mod Taking
 pub mod Needing
 pub mod Erring
 pub mod Staging
+pub mod Alike
