@@ -4,5 +4,5 @@ pub mod Numbering
 pub mod Taking
 pub mod Needing
 pub mod Erring
-pub mod Turning
 pub mod Staging
+pub mod Alike

@@ -3,6 +3,5 @@ pub mod Held
 pub mod Stands
 pub mod Numbers
 pub mod FinalFib
-pub mod Turns
 pub mod Parts
 pub mod Staged

@@ -19,7 +19,6 @@ ghost use Rattle.route_tries.specs.Tries.{AreTriesOf};
 ghost use Rattle.route_tries.specs.declared.sizes.TrieFull.{TrieFull};
 ghost use Rattle.fib_engine.specs.Held.{engine_routes, routes_told};
 ghost use Rattle.fib_engine.specs.Tables.{AreOfRoutes, only};
-ghost use Rattle.fib_engine.specs.Turns.{AreTurnsOf};
 ghost use Rattle.fib_engine.specs.Stands.{EndsLoad, IsLoading, IsShortFor, IsTooMany, Loads, EngineStands, TakesElem, changes_of, first_of, routes_after};
 
 use crate::error::EngineError;
@@ -29,7 +28,6 @@ use crate::parts::Parts;
 use crate::route_source::RouteSource;
 use crate::staged::Staged;
 use crate::tables::{EventChanges, Tables};
-use crate::turns::Turns;
 use fib_prefix::{Addr, Elem, Entry, Event, Family, HopTable, Prefix, Via};
 use ortc::Fresh;
 use route_choice::{Candidates, FamilyRoutes};
@@ -372,14 +370,5 @@ impl Engine {
             parts: self.parts,
             waiting: None,
         }
-    }
-
-    /// What each elementary event after the load does to the routes, computed in advance, where none came yet: the tables are let
-    /// go.
-    pub fn turns(self) -> Turns
-        ensures { (load : List model_elem) → EngineStands load [] self → AreTurnsOf load [] result }
-    {
-        drop(self.parts.tables);
-        Turns::new(self.parts.alloc, self.parts.candidates, self.parts.hops)
     }
 }

@@ -13,25 +13,24 @@
 //! `Engine::apply` goes through the very same plan, but for an event that changes no chosen hop and that no snapshot follows: it asks
 //! no table.
 //!
-//! Where no more events come an engine settles: the candidates are let go, and what is left is told from the trees. Where only
-//! what events do to the routes is asked for, and no table, an engine leaves its `Turns`.
+//! Where no more events come an engine settles: the candidates are let go, and what is left is told from the trees.
 #![tactic(auto)]
 
 mod engine;
 mod error;
 mod final_fib;
 mod fitting;
+mod laws;
 mod numbers;
 mod parts;
 mod route_source;
 mod staged;
 mod tables;
-mod turns;
 
 pub use engine::{Engine, Limits};
 pub use error::EngineError;
 pub use final_fib::FinalFib;
+pub use laws::one_state_law;
 pub use route_tries::{FamilyNeeds, Found, Needs, Sizes, TrieFull, Tries};
 pub use staged::{Planned, Staged};
 pub use tables::EventChanges;
-pub use turns::Turns;
