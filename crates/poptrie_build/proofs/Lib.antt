@@ -11,6 +11,8 @@ pub mod Parted
 pub mod Parting
 pub mod Slotting
 pub mod So_far
+pub mod More_surveyed
+pub mod Puts
 pub mod Tallying
 pub mod Visits
 pub mod Walk
