@@ -1,6 +1,7 @@
 pub mod Address
 pub mod Bits
 pub mod Carry
+pub mod Childless
 pub mod Counting
 pub mod Directing
 pub mod Word

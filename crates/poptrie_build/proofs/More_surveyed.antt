@@ -10,10 +10,8 @@ use Rattle.poptrie_build.specs.Bits.{rank_of}
 use Rattle.poptrie_build.specs.Strides.{slot, slots, mixed, starts, or_earlier, leaf_before, run_start, total}
 use Rattle.poptrie_build.specs.Need.{children, runs}
 use Rattle.poptrie_build.specs.Stands.{IsCanonical}
-use Rattle.poptrie_build.specs.Making.{IsSoFar}
 use Rattle.poptrie_build.specs.Surveyed.{IsSurveyed, IsLastOf}
 use Rattle.poptrie_build.specs.Tally.{AreParts}
-use Rattle.poptrie_build.specs.declared.making.Partial.{Partial}
 use Rattle.poptrie_build.specs.declared.surveying.Survey.{Survey}
 use Rattle.poptrie_build.proofs.Counting.{total_more, total_upto}
 use Rattle.poptrie_build.proofs.Tallying.{parts_start, parts_low, parts_high}

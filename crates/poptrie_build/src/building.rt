@@ -64,6 +64,15 @@ pub(crate) fn build_node<R: Region>(
     let base1 = take_places(nodes, made.nodes)?;
     let base0 = take_places(leaves, made.leaves)?;
     put_leaves(leaves, base0, &hops, made.leaves);
+    let own = Node {
+        vector: made.vector,
+        leafvec: made.leafvec,
+        base0,
+        base1,
+    };
+    if made.nodes == 0 {
+        return Some(own);
+    }
     for slot in 0..64u8 {
         if (made.vector >> slot) & 1 == 1 {
             let child = descend(region, slot, 6);
@@ -71,10 +80,5 @@ pub(crate) fn build_node<R: Region>(
             put(nodes, base1 + rank(made.vector, slot) - 1, node);
         }
     }
-    Some(Node {
-        vector: made.vector,
-        leafvec: made.leafvec,
-        base0,
-        base1,
-    })
+    Some(own)
 }

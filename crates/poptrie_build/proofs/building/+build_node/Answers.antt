@@ -1,9 +1,9 @@
-use Rattle.std.proofs.Common.{rules, arith, refl, ◌≡◌, ◌∙◌, ap, sym, subst, ◌+◌, ◌<◌, ◌≤◌, None, ℕ, set, ◌*◌, length}
+use Rattle.std.proofs.Common.{rules, arith, refl, ◌≡◌, ◌∙◌, ap, sym, subst, ◌+◌, ◌<◌, None, ℕ, set, ◌*◌}
 use Rattle.poptrie_build.specs.Strides.{slots, mixed}
 use Rattle.buddy_arena.specs.Powers.{up}
 use Rattle.buddy_arena.proofs.Powers.{up_above}
 use Rattle.poptrie_build.specs.Need.{children}
-use Rattle.poptrie_build.specs.Stands.{blank}
+use Rattle.poptrie_build.proofs.Childless.{going_upto, counted_upto, parted_upto}
 use Rattle.poptrie_build.proofs.Directing.{never, keeps_all, keeps_both}
 use Rattle.poptrie_build.proofs.Going.{child_none, child_less, node_room, node_written, leaf_there, hop_of, node_of, written_there, written_keeps, takes_same, at_end_stands, going_start, state}
 use Rattle.poptrie_build.proofs.Walk.{rank_more}
@@ -158,3 +158,68 @@ returns-clause-nodes_apart g t c =
 pub returns-clause-leaves_apart : goal.returns-clause-leaves_apart
 returns-clause-leaves_apart g t c =
     λ k. leaves_parted _ _ _ _ _ c.loop-slot.slot _ _ _ _ c.loop-slot.auto.slot-end c.loop-slot-test.false c.survey_slots-made.ensures.canonical c.loop-slot.invariant.0 c.loop-slot.invariant.3 (c.in_ok-base0.ensures.aligned.0, c.in_ok-base0.ensures.aligned.1 ∙ ap (λ n. c.in_ok-base0.ensures.aligned.0 * up n) c.survey_slots-made.ensures.leaves) k
+
+-- where no slot has a node
+pub returns-then-made-eq0-clause-stands : goal.returns-then-made-eq0-clause-stands
+returns-then-made-eq0-clause-stands g t c =
+    let out : is_out c.put_leaves.new.leaves.free ≡ is_out c.take_places-2.new.arena.free = ap is_out c.put_leaves.ensures.free in
+    let keeps = written_keeps _ _ _ _ c.args.leaves.now c.take_places-2.new.arena c.put_leaves.new.leaves _ (up_above c.survey_slots-made.result.leaves) c.take_places-2.ensures.cells c.take_places-2.ensures.still c.in_ok-base0.ensures.takes c.put_leaves.ensures in
+    let there = written_there c.survey_slots-made.result.leafvec c.in_ok-base0.base0 (g.R.Region.bits c.args.region.now) c.survey_slots-made.result.leaves (g.R.Region.answers c.args.region.now) c.survey_slots-made.new.hops c.survey_slots-made.result.vector c.take_places-2.new.arena c.put_leaves.new.leaves c.survey_slots-made.ensures.canonical c.survey_slots-made.ensures.leaves c.put_leaves.ensures c.survey_slots-made.ensures.hops in
+    let none : children (slots (g.R.Region.bits c.args.region.now) (g.R.Region.answers c.args.region.now)) ≡ 0 = sym c.survey_slots-made.ensures.nodes ∙ c.if-made-eq0.true in
+    let going = going_upto c.survey_slots-made.result.vector c.survey_slots-made.result.leafvec c.in_ok-base0.base0 c.in_ok-base1.base1 (g.R.Region.bits c.args.region.now) (g.R.Region.answers c.args.region.now) c.args.nodes.now c.take_places.new.arena c.args.leaves.now c.put_leaves.new.leaves c.survey_slots-made.ensures.canonical there none 64 (omega arith)
+    (going_start _ _ _ _ _ _ _ _ _ _ _ _ _ _ c.survey_slots-made.ensures.nodes c.survey_slots-made.ensures.leaves c.in_ok-base1.ensures.takes (takes_same _ _ _ _ _ _ _ out c.put_leaves.ensures.long c.in_ok-base0.ensures.takes) c.take_places.ensures.still c.take_places.ensures.cells keeps)
+    in
+    at_end_stands _ _ _ _ _ _ _ _ _ 64 (omega arith) (omega arith) c.requires.mixed c.survey_slots-made.ensures.canonical going
+
+pub returns-then-made-eq0-clause-nodes_left : goal.returns-then-made-eq0-clause-nodes_left
+returns-then-made-eq0-clause-nodes_left g t c =
+    let out : is_out c.put_leaves.new.leaves.free ≡ is_out c.take_places-2.new.arena.free = ap is_out c.put_leaves.ensures.free in
+    let keeps = written_keeps _ _ _ _ c.args.leaves.now c.take_places-2.new.arena c.put_leaves.new.leaves _ (up_above c.survey_slots-made.result.leaves) c.take_places-2.ensures.cells c.take_places-2.ensures.still c.in_ok-base0.ensures.takes c.put_leaves.ensures in
+    let there = written_there c.survey_slots-made.result.leafvec c.in_ok-base0.base0 (g.R.Region.bits c.args.region.now) c.survey_slots-made.result.leaves (g.R.Region.answers c.args.region.now) c.survey_slots-made.new.hops c.survey_slots-made.result.vector c.take_places-2.new.arena c.put_leaves.new.leaves c.survey_slots-made.ensures.canonical c.survey_slots-made.ensures.leaves c.put_leaves.ensures c.survey_slots-made.ensures.hops in
+    let none : children (slots (g.R.Region.bits c.args.region.now) (g.R.Region.answers c.args.region.now)) ≡ 0 = sym c.survey_slots-made.ensures.nodes ∙ c.if-made-eq0.true in
+    let counted = counted_upto c.survey_slots-made.result.vector c.survey_slots-made.result.leafvec c.in_ok-base0.base0 c.in_ok-base1.base1 (g.R.Region.bits c.args.region.now) (g.R.Region.answers c.args.region.now) c.args.nodes.now c.take_places.new.arena c.args.leaves.now c.put_leaves.new.leaves c.survey_slots-made.ensures.canonical there none 64 (omega arith) c.put_leaves.ensures.sized
+    (count_written (g.R.Region.bits c.args.region.now) (g.R.Region.answers c.args.region.now) c.args.nodes.now c.take_places.new.arena c.args.leaves.now c.take_places-2.new.arena c.put_leaves.new.leaves 0 _ _ _ c.put_leaves.ensures
+    (count_start (g.R.Region.bits c.args.region.now) (g.R.Region.answers c.args.region.now) c.args.nodes.now c.take_places.new.arena c.args.leaves.now c.take_places-2.new.arena _ _ c.survey_slots-made.ensures.nodes c.survey_slots-made.ensures.leaves c.in_ok-base1.ensures.left c.in_ok-base0.ensures.left c.take_places.ensures.fresh c.take_places-2.ensures.fresh c.take_places.ensures.sized c.take_places-2.ensures.sized
+    c.take_places.ensures.order c.take_places-2.ensures.order c.take_places.ensures.fill c.take_places-2.ensures.fill))
+    in
+    nodes_end _ _ _ _ _ _ 64 (omega arith) (omega arith) c.requires.mixed counted
+
+pub returns-then-made-eq0-clause-leaves_left : goal.returns-then-made-eq0-clause-leaves_left
+returns-then-made-eq0-clause-leaves_left g t c =
+    let out : is_out c.put_leaves.new.leaves.free ≡ is_out c.take_places-2.new.arena.free = ap is_out c.put_leaves.ensures.free in
+    let keeps = written_keeps _ _ _ _ c.args.leaves.now c.take_places-2.new.arena c.put_leaves.new.leaves _ (up_above c.survey_slots-made.result.leaves) c.take_places-2.ensures.cells c.take_places-2.ensures.still c.in_ok-base0.ensures.takes c.put_leaves.ensures in
+    let there = written_there c.survey_slots-made.result.leafvec c.in_ok-base0.base0 (g.R.Region.bits c.args.region.now) c.survey_slots-made.result.leaves (g.R.Region.answers c.args.region.now) c.survey_slots-made.new.hops c.survey_slots-made.result.vector c.take_places-2.new.arena c.put_leaves.new.leaves c.survey_slots-made.ensures.canonical c.survey_slots-made.ensures.leaves c.put_leaves.ensures c.survey_slots-made.ensures.hops in
+    let none : children (slots (g.R.Region.bits c.args.region.now) (g.R.Region.answers c.args.region.now)) ≡ 0 = sym c.survey_slots-made.ensures.nodes ∙ c.if-made-eq0.true in
+    let counted = counted_upto c.survey_slots-made.result.vector c.survey_slots-made.result.leafvec c.in_ok-base0.base0 c.in_ok-base1.base1 (g.R.Region.bits c.args.region.now) (g.R.Region.answers c.args.region.now) c.args.nodes.now c.take_places.new.arena c.args.leaves.now c.put_leaves.new.leaves c.survey_slots-made.ensures.canonical there none 64 (omega arith) c.put_leaves.ensures.sized
+    (count_written (g.R.Region.bits c.args.region.now) (g.R.Region.answers c.args.region.now) c.args.nodes.now c.take_places.new.arena c.args.leaves.now c.take_places-2.new.arena c.put_leaves.new.leaves 0 _ _ _ c.put_leaves.ensures
+    (count_start (g.R.Region.bits c.args.region.now) (g.R.Region.answers c.args.region.now) c.args.nodes.now c.take_places.new.arena c.args.leaves.now c.take_places-2.new.arena _ _ c.survey_slots-made.ensures.nodes c.survey_slots-made.ensures.leaves c.in_ok-base1.ensures.left c.in_ok-base0.ensures.left c.take_places.ensures.fresh c.take_places-2.ensures.fresh c.take_places.ensures.sized c.take_places-2.ensures.sized
+    c.take_places.ensures.order c.take_places-2.ensures.order c.take_places.ensures.fill c.take_places-2.ensures.fill))
+    in
+    leaves_end _ _ _ _ _ _ 64 (omega arith) (omega arith) c.requires.mixed counted
+
+pub returns-then-made-eq0-clause-nodes_apart : goal.returns-then-made-eq0-clause-nodes_apart
+returns-then-made-eq0-clause-nodes_apart g t c =
+    let out : is_out c.put_leaves.new.leaves.free ≡ is_out c.take_places-2.new.arena.free = ap is_out c.put_leaves.ensures.free in
+    let keeps = written_keeps _ _ _ _ c.args.leaves.now c.take_places-2.new.arena c.put_leaves.new.leaves _ (up_above c.survey_slots-made.result.leaves) c.take_places-2.ensures.cells c.take_places-2.ensures.still c.in_ok-base0.ensures.takes c.put_leaves.ensures in
+    let there = written_there c.survey_slots-made.result.leafvec c.in_ok-base0.base0 (g.R.Region.bits c.args.region.now) c.survey_slots-made.result.leaves (g.R.Region.answers c.args.region.now) c.survey_slots-made.new.hops c.survey_slots-made.result.vector c.take_places-2.new.arena c.put_leaves.new.leaves c.survey_slots-made.ensures.canonical c.survey_slots-made.ensures.leaves c.put_leaves.ensures c.survey_slots-made.ensures.hops in
+    let none : children (slots (g.R.Region.bits c.args.region.now) (g.R.Region.answers c.args.region.now)) ≡ 0 = sym c.survey_slots-made.ensures.nodes ∙ c.if-made-eq0.true in
+    let going = going_upto c.survey_slots-made.result.vector c.survey_slots-made.result.leafvec c.in_ok-base0.base0 c.in_ok-base1.base1 (g.R.Region.bits c.args.region.now) (g.R.Region.answers c.args.region.now) c.args.nodes.now c.take_places.new.arena c.args.leaves.now c.put_leaves.new.leaves c.survey_slots-made.ensures.canonical there none 64 (omega arith)
+    (going_start _ _ _ _ _ _ _ _ _ _ _ _ _ _ c.survey_slots-made.ensures.nodes c.survey_slots-made.ensures.leaves c.in_ok-base1.ensures.takes (takes_same _ _ _ _ _ _ _ out c.put_leaves.ensures.long c.in_ok-base0.ensures.takes) c.take_places.ensures.still c.take_places.ensures.cells keeps)
+    in
+    let parted = parted_upto c.survey_slots-made.result.vector c.survey_slots-made.result.leafvec c.in_ok-base0.base0 c.in_ok-base1.base1 (g.R.Region.bits c.args.region.now) (g.R.Region.answers c.args.region.now) c.args.nodes.now c.take_places.new.arena c.args.leaves.now c.put_leaves.new.leaves c.survey_slots-made.ensures.canonical there none 64 (omega arith) in
+    λ k. nodes_parted _ _ _ _ _ 64 _ _ _ _ (omega arith) (omega arith) c.survey_slots-made.ensures.canonical going parted (c.in_ok-base1.ensures.aligned.0, c.in_ok-base1.ensures.aligned.1 ∙ ap (λ n. c.in_ok-base1.ensures.aligned.0 * up n) c.survey_slots-made.ensures.nodes) k
+
+pub returns-then-made-eq0-clause-leaves_apart : goal.returns-then-made-eq0-clause-leaves_apart
+returns-then-made-eq0-clause-leaves_apart g t c =
+    let out : is_out c.put_leaves.new.leaves.free ≡ is_out c.take_places-2.new.arena.free = ap is_out c.put_leaves.ensures.free in
+    let keeps = written_keeps _ _ _ _ c.args.leaves.now c.take_places-2.new.arena c.put_leaves.new.leaves _ (up_above c.survey_slots-made.result.leaves) c.take_places-2.ensures.cells c.take_places-2.ensures.still c.in_ok-base0.ensures.takes c.put_leaves.ensures in
+    let there = written_there c.survey_slots-made.result.leafvec c.in_ok-base0.base0 (g.R.Region.bits c.args.region.now) c.survey_slots-made.result.leaves (g.R.Region.answers c.args.region.now) c.survey_slots-made.new.hops c.survey_slots-made.result.vector c.take_places-2.new.arena c.put_leaves.new.leaves c.survey_slots-made.ensures.canonical c.survey_slots-made.ensures.leaves c.put_leaves.ensures c.survey_slots-made.ensures.hops in
+    let none : children (slots (g.R.Region.bits c.args.region.now) (g.R.Region.answers c.args.region.now)) ≡ 0 = sym c.survey_slots-made.ensures.nodes ∙ c.if-made-eq0.true in
+    let going = going_upto c.survey_slots-made.result.vector c.survey_slots-made.result.leafvec c.in_ok-base0.base0 c.in_ok-base1.base1 (g.R.Region.bits c.args.region.now) (g.R.Region.answers c.args.region.now) c.args.nodes.now c.take_places.new.arena c.args.leaves.now c.put_leaves.new.leaves c.survey_slots-made.ensures.canonical there none 64 (omega arith)
+    (going_start _ _ _ _ _ _ _ _ _ _ _ _ _ _ c.survey_slots-made.ensures.nodes c.survey_slots-made.ensures.leaves c.in_ok-base1.ensures.takes (takes_same _ _ _ _ _ _ _ out c.put_leaves.ensures.long c.in_ok-base0.ensures.takes) c.take_places.ensures.still c.take_places.ensures.cells keeps)
+    in
+    let parted = parted_upto c.survey_slots-made.result.vector c.survey_slots-made.result.leafvec c.in_ok-base0.base0 c.in_ok-base1.base1 (g.R.Region.bits c.args.region.now) (g.R.Region.answers c.args.region.now) c.args.nodes.now c.take_places.new.arena c.args.leaves.now c.put_leaves.new.leaves c.survey_slots-made.ensures.canonical there none 64 (omega arith) in
+    λ k. leaves_parted _ _ _ _ _ 64 _ _ _ _ (omega arith) (omega arith) c.survey_slots-made.ensures.canonical going parted (c.in_ok-base0.ensures.aligned.0, c.in_ok-base0.ensures.aligned.1 ∙ ap (λ n. c.in_ok-base0.ensures.aligned.0 * up n) c.survey_slots-made.ensures.leaves) k
+
+pub returns-then-made-eq0-clause-leaves : goal.returns-then-made-eq0-clause-leaves
+returns-then-made-eq0-clause-leaves g t c = written_keeps _ _ _ _ c.args.leaves.now c.take_places-2.new.arena c.put_leaves.new.leaves _ (up_above c.survey_slots-made.result.leaves) c.take_places-2.ensures.cells c.take_places-2.ensures.still c.in_ok-base0.ensures.takes c.put_leaves.ensures

@@ -1,4 +1,4 @@
-use Rattle.std.proofs.Common.{refl, arith, ◌≤◌}
+use Rattle.std.proofs.Common.{refl, arith}
 use Rattle.fib_addr.proofs.OneAnswer.{mixed_bits}
 use Rattle.poptrie_build.specs.Strides.{slots}
 use Rattle.poptrie_build.proofs.More_surveyed.{surveyed_whole, surveyed_canonical, surveyed_nodes, surveyed_leaves, surveyed_hops}
