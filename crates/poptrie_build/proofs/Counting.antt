@@ -8,6 +8,7 @@ use Rattle.poptrie_build.specs.Strides.{slots, slot, mixed, starts, or_earlier, 
 use Rattle.buddy_arena.specs.Powers.{up}
 use Rattle.poptrie_build.specs.Need.{children, runs, if_mixed, need_nodes, need_leaves}
 use Rattle.poptrie_build.specs.Stands.{IsCanonical}
+use Rattle.poptrie_build.specs.Put.{PutsAll}
 use Rattle.poptrie_build.specs.Slots.{AreSlots}
 use Rattle.poptrie_build.specs.Making.{slot_kind}
 use Rattle.std.proofs.Math.Pow.{pow_mono}
@@ -145,6 +146,19 @@ module _ (d : ℕ) (f : List Bool → ℕ) (n0 n1 n2 : Space Node) (l0 l1 l2 : S
     orders = (nor ∙ (on ∙ c.orders.0), ol ∙ c.orders.1);
     fills = (np ∙ (pn ∙ c.fills.0), pl ∙ c.fills.1);
   }
+
+-- leaves were written
+pub count_written : (d : ℕ) (f : List Bool → ℕ) (n0 n1 : Space Node) (l0 l1 l2 : Space ℕ) (v base n : ℕ) (hops : List ℕ) → PutsAll base n hops l1 l2 → Counted d f n0 n1 l0 l1 v → Counted d f n0 n1 l0 l2 v
+count_written d f n0 n1 l0 l1 l2 v base n hops put c = record {
+  nodes_left = c.nodes_left;
+  leaves_left = λ k q. omega (arith, c.leaves_left k q, free_same l1 l2 put.free);
+  nodes_fresh = c.nodes_fresh;
+  leaves_fresh = λ x. fresh_same l1 l2 put.order put.free (c.leaves_fresh x);
+  nodes_sized = c.nodes_sized;
+  leaves_sized = put.sized;
+  orders = (c.orders.0, put.order ∙ c.orders.1);
+  fills = (c.fills.0, put.fill ∙ c.fills.1);
+}
 
 -- ---- at the end
 pub nodes_end : (d : ℕ) (f : List Bool → ℕ) (n0 n1 : Space Node) (l0 l1 : Space ℕ) (v : ℕ) → v ≤ 64 → 64 ≤ v → one_answer d f ≡ None → Counted d f n0 n1 l0 l1 v → (k : ℕ) → d ≤ 6 * k → count_free n1 + need_nodes k d f ≡ count_free n0

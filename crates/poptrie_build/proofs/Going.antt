@@ -1,6 +1,6 @@
 -- The children and the leaves of a node while its slots are gone through.
 use Rattle.std.proofs.Common.{◌≡◌, ◌≢◌, ℕ, zero, suc, ◌+◌, ◌-◌, ◌*◌, ◌<◌, ◌≤◌, List, [], ◌∷◌, Bool, true, false, cond, nat_eq, Option, Some, None, length, get_or, refl, sym, ap, ◌∙◌, arith, subst, inl, inr}
-use Rattle.std.specs.Prelude.{not, ◌&&◌}
+use Rattle.std.specs.Prelude.{not, ◌&&◌, ◌⊎◌}
 use Rattle.std.specs.Int.{bit_at}
 use Rattle.std.proofs.Math.ListN.{set, length-set}
 use Rattle.std.proofs.lemmas.List.{get_or-set_other, get_or-set_same}
@@ -12,12 +12,14 @@ use Rattle.buddy_arena.specs.Powers.{up}
 use Rattle.poptrie_build.specs.Need.{children, runs}
 use Rattle.buddy_arena.proofs.Powers.{up_above}
 use Rattle.poptrie_build.specs.Stands.{IsCanonical, IsLeaf, BySlot, node_at, blank}
-use Rattle.buddy_arena.specs.Places.{Keeps, TakesPlaces, since}
+use Rattle.buddy_arena.specs.Space.{Space}
+use Rattle.buddy_arena.specs.Places.{Keeps, TakesPlaces, is_out, since}
+use Rattle.poptrie_build.specs.Put.{PutsAll}
 use Rattle.poptrie_build.specs.Build.{StandsIn}
 use Rattle.poptrie_build.specs.declared.node.Node.{Node}
 use Rattle.buddy_arena.proofs.Parting.{since_now, since_not}
 use Rattle.poptrie_build.proofs.Carry.{carry}
-use Rattle.poptrie_build.proofs.So_far.{rank_total}
+use Rattle.poptrie_build.proofs.So_far.{rank_total, cases_le}
 use Rattle.poptrie_build.proofs.Walk.{leaf_ranked, node_ranked, rank_more}
 use Rattle.fib_addr.proofs.OneAnswer.{mixed_bits}
 
@@ -410,26 +412,69 @@ set_kept [] i x d l e = absurd (omega arith)
 set_kept (y ∷ xs) zero x d l e = ap (λ z. z ∷ xs) (sym e)
 set_kept (y ∷ xs) (suc i) x d l e = ap (λ r. y ∷ r) (set_kept xs i x d (omega arith) e)
 
--- a slot that goes on with the leaf before it: the leaf is there
-pub leaf_kept : (vector leafvec base0 base1 d : ℕ) (f : List Bool → ℕ) (old mid now to : State) (v h : ℕ) → v < 64 → Some h ≡ slots d f v → IsCanonical vector leafvec (slots d f) → bit_at leafvec v ≡ 0 → Going vector leafvec base0 base1 d f old mid now v → to.nodes ≡ now.nodes → to.N ≡ now.N → to.leaves ≡ now.leaves → to.L ≡ now.L → Going vector leafvec base0 base1 d f old mid to (v + 1)
-leaf_kept vector leafvec base0 base1 d f old mid now to v h l some can z g a b c x =
-    let before : leaf_before (slots d f) v ≡ Some h = goes_on h (leaf_before (slots d f) v) (ap (λ o. starts o (leaf_before (slots d f) v)) some ∙ (sym (can.leaves v l) ∙ z)) in
-    let r = last_leaf leafvec (slots d f) v h (λ y m. can.leaves y (omega (arith, m, l))) before in
-    let more = rank_more leafvec v in
-    let same : rank_of leafvec (r.0 + 1) ≡ rank_of leafvec (v + 1) = omega (arith, r.3, z, more) in
-    let p = leaf_place vector leafvec base0 d f old.L mid.L (length now.leaves) v h l can (sym some) (fewer g.leaf_block) in
-    let there : LeafDone leafvec base0 now r.0 h = subst (λ (o : Option ℕ). BySlot o (NodeDone vector base1 d f mid now r.0) (LeafDone leafvec base0 now r.0)) r.2 (g.done r.0 r.1) in
-    let is : get_or now.leaves (base0 + rank_of leafvec (v + 1) - 1) 0 ≡ h = ap (λ q. get_or now.leaves (base0 + q - 1) 0) (sym same) ∙ there in
-    leaf_written vector leafvec base0 base1 d f old mid now to v h (rank_of leafvec (v + 1)) l some can refl g a b (c ∙ sym (set_kept now.leaves (base0 + rank_of leafvec (v + 1) - 1) h 0 p.2 is)) x
+-- each leaf slot's leaf is there
+abbrev pub LeavesThere : (leafvec base0 d : ℕ) (f : List Bool → ℕ) (leaves : List ℕ) → Type 0
+LeavesThere leafvec base0 d f leaves = (v h : ℕ) → v < 64 → slots d f v ≡ Some h → get_or leaves (base0 + rank_of leafvec (v + 1) - 1) 0 ≡ h
+
+-- a slot that has no node: its leaf is there
+pub leaf_there : (vector leafvec base0 base1 d : ℕ) (f : List Bool → ℕ) (old mid now to : State) (v h : ℕ) → v < 64 → slots d f v ≡ Some h → IsCanonical vector leafvec (slots d f) → LeavesThere leafvec base0 d f mid.leaves → Keeps 0 mid.leaves mid.L now.leaves now.L → Going vector leafvec base0 base1 d f old mid now v → to.nodes ≡ now.nodes → to.N ≡ now.N → to.leaves ≡ now.leaves → to.L ≡ now.L → Going vector leafvec base0 base1 d f old mid to (v + 1)
+leaf_there vector leafvec base0 base1 d f old mid now to v h l some can there kept g a b c x =
+    let p = leaf_place vector leafvec base0 d f old.L mid.L (length now.leaves) v h l can some (fewer g.leaf_block) in
+    let is : get_or now.leaves (base0 + rank_of leafvec (v + 1) - 1) 0 ≡ h = kept.same (base0 + rank_of leafvec (v + 1) - 1) p.0 ∙ there v h l some in
+    leaf_written vector leafvec base0 base1 d f old mid now to v h (rank_of leafvec (v + 1)) l (sym some) can refl g a b (c ∙ sym (set_kept now.leaves (base0 + rank_of leafvec (v + 1) - 1) h 0 p.2 is)) x
+
+-- a slot with no bit in the vector has a hop
+pub hop_of : (o : Option ℕ) → mixed o ≡ 0 → (h : ℕ) × (o ≡ Some h)
+hop_of None e = absurd (omega (arith, e))
+hop_of (Some h) e = (h, refl)
+
+-- a slot with a bit there has none
+pub node_of : (o : Option ℕ) → mixed o ≡ 1 → None ≡ o
+node_of None e = refl
+node_of (Some h) e = absurd (omega (arith, e))
+
+-- the leaves were written to the block that came out
+pub written_there : (leafvec base0 d n : ℕ) (f : List Bool → ℕ) (hops : List ℕ) (vector : ℕ) (old new : Space ℕ) → IsCanonical vector leafvec (slots d f) → n ≡ runs (slots d f) → PutsAll base0 n hops old new → ((v h : ℕ) → v < 64 → slots d f v ≡ Some h → get_or hops (rank_of leafvec (v + 1) - 1) 0 ≡ h) → LeavesThere leafvec base0 d f new.cells
+written_there leafvec base0 d n f hops vector old new can runs_is put each v h l some =
+    let r = leaf_ranked leafvec (slots d f) v h l can.leaves some in
+    let le = rank_le leafvec (v + 1) 64 (omega arith) in
+    let c : rank_of leafvec 64 ≡ runs (slots d f) = rank_total leafvec 64 (run_start (slots d f)) can.leaves in
+    let e : base0 + (rank_of leafvec (v + 1) - 1) ≡ base0 + rank_of leafvec (v + 1) - 1 = omega (arith, r) in
+    ap (λ i. get_or new.cells i 0) (sym e) ∙ (put.cells (rank_of leafvec (v + 1) - 1) (omega (arith, r, le, c, runs_is)) ∙ each v h l some)
+
+true_false : (b : Bool) → b ≡ true → b ≡ false → ⊥
+true_false true p q = cc
+true_false false p q = cc
+
+aside_block : (base n i : ℕ) (o : ℕ → Bool) → ((j : ℕ) → j < n → o (base + j) ≡ false) → o i ≡ true → (i < base) ⊎ (base + n ≤ i)
+aside_block base n i o were is = by (cases_le base i) (cases_le (base + n) i)
+  where
+    by : (i < base) ⊎ (base ≤ i) → (i < base + n) ⊎ (base + n ≤ i) → (i < base) ⊎ (base + n ≤ i)
+    by (inl l) b = inl l
+    by (inr l) (inr m) = inr m
+    by (inr l) (inl m) =
+        let e : base + (i - base) ≡ i = omega arith in
+        absurd (true_false (o i) is (ap o (sym e) ∙ were (i - base) (omega arith)))
+
+pub takes_same : (base n len to : ℕ) (old mid now : ℕ → Bool) → now ≡ mid → to ≡ len → TakesPlaces base n old mid len → TakesPlaces base n old now to
+takes_same base n len to old mid now e l t = subst (λ (x : ℕ → Bool). TakesPlaces base n old x to) (sym e) (subst (λ (x : ℕ). TakesPlaces base n old mid x) (sym l) t)
+
+-- what was out before the block came out holds what it held
+pub written_keeps : (base n m : ℕ) (hops : List ℕ) (was old new : Space ℕ) (len : ℕ) → n ≤ m → old.cells ≡ was.cells → ((i : ℕ) → is_out was.free i ≡ true → is_out old.free i ≡ true) → TakesPlaces base m (is_out was.free) (is_out old.free) len → PutsAll base n hops old new → Keeps 0 was.cells (is_out was.free) new.cells (is_out new.free)
+written_keeps base n m hops was old new len l same still t put = record {
+  still = λ i o. ap (λ x. is_out x i) put.free ∙ still i o;
+  same = λ i o. put.others i (aside_block base n i (is_out was.free) (λ j h. t.were j (omega (arith, h, l))) o) ∙ ap (λ x. get_or x i 0) same;
+  long = put.long ∙ ap length same;
+}
 
 -- before the first slot
-pub going_start : (vector leafvec base0 base1 d : ℕ) (f : List Bool → ℕ) (n0 n1 : List Node) (l0 l1 : List ℕ) (oN mN oL mL : ℕ → Bool) {c r : ℕ} → c ≡ children (slots d f) → r ≡ runs (slots d f) → TakesPlaces base1 (up c) oN mN (length n1) → TakesPlaces base0 (up r) oL mL (length l1) → ((i : ℕ) → oN i ≡ true → mN i ≡ true) → ((i : ℕ) → oL i ≡ true → mL i ≡ true) → n1 ≡ n0 → l1 ≡ l0 →
+pub going_start : (vector leafvec base0 base1 d : ℕ) (f : List Bool → ℕ) (n0 n1 : List Node) (l0 l1 : List ℕ) (oN mN oL mL : ℕ → Bool) {c r : ℕ} → c ≡ children (slots d f) → r ≡ runs (slots d f) → TakesPlaces base1 (up c) oN mN (length n1) → TakesPlaces base0 (up r) oL mL (length l1) → ((i : ℕ) → oN i ≡ true → mN i ≡ true) → n1 ≡ n0 → Keeps 0 l0 oL l1 mL →
     Going vector leafvec base0 base1 d f (state n0 oN l0 oL) (state n1 mN l1 mL) (state n1 mN l1 mL) 0
-going_start vector leafvec base0 base1 d f n0 n1 l0 l1 oN mN oL mL ec er tn tl sn sl en el = record {
+going_start vector leafvec base0 base1 d f n0 n1 l0 l1 oN mN oL mL ec er tn tl sn en kl = record {
   nodes_kept = record { still = sn; same = λ i o. ap (λ x. get_or x i blank) en; long = ap length en };
-  leaves_kept = record { still = sl; same = λ i o. ap (λ x. get_or x i 0) el; long = ap length el };
+  leaves_kept = kl;
   early_nodes = sn;
-  early_leaves = sl;
+  early_leaves = kl.still;
   mid_nodes = λ i o. o;
   mid_leaves = λ i o. o;
   node_block = subst (λ (x : ℕ). TakesPlaces base1 (up x) oN mN (length n1)) ec tn;

@@ -1,6 +1,7 @@
 pub mod Address
 pub mod Bits
 pub mod Carry
+pub mod Childless
 pub mod Counting
 pub mod Directing
 pub mod Word
@@ -11,6 +12,8 @@ pub mod Parted
 pub mod Parting
 pub mod Slotting
 pub mod So_far
+pub mod More_surveyed
+pub mod Puts
 pub mod Tallying
 pub mod Visits
 pub mod Walk

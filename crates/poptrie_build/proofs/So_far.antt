@@ -89,7 +89,7 @@ rank_total n (suc k) h b =
     let e = b k (omega arith) in
     omega arith
 
-cases_le : (k i : ℕ) → (i < k) ⊎ (k ≤ i)
+pub cases_le : (k i : ℕ) → (i < k) ⊎ (k ≤ i)
 cases_le k i = grind arith
 
 -- a number with no bit from k on is below 2 ^ k

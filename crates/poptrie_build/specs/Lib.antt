@@ -10,3 +10,5 @@ pub mod Build
 pub mod Tries
 pub mod Arrays
 pub mod Keys
+pub mod Put
+pub mod Surveyed

@@ -10,9 +10,10 @@ ghost use Rattle.poptrie_build.specs.Build.{StandsIn};
 ghost use Rattle.buddy_arena.specs.Arrays.{AreApart};
 ghost use Rattle.poptrie_build.specs.Arrays.{node_arrays, leaf_arrays};
 
-use crate::making::make_vectors;
 use crate::node::{Node, rank};
-use crate::slots::{ask, descend};
+use crate::putting::put_leaves;
+use crate::slots::descend;
+use crate::surveying::survey_slots;
 use buddy_arena::{Arena, put, take_places};
 use fib_addr::Region;
 
@@ -58,29 +59,26 @@ pub(crate) fn build_node<R: Region>(
         → need_leaves k (R.bits region.now) (R.answers region.now) ≤ count_free leaves.old
         → IsSome result }
 {
-    let mut kinds = [None; 64];
-    ask(region, 6, &mut kinds);
-    let made = make_vectors(&kinds);
+    let mut hops = [0; 64];
+    let made = survey_slots(region, &mut hops);
     let base1 = take_places(nodes, made.nodes)?;
     let base0 = take_places(leaves, made.leaves)?;
-    for slot in 0..64u8 {
-        match kinds[usize::from(slot)] {
-            Some(hop) => {
-                if (made.leafvec >> slot) & 1 == 1 {
-                    put(leaves, base0 + rank(made.leafvec, slot) - 1, hop);
-                }
-            }
-            None => {
-                let child = descend(region, slot, 6);
-                let node = build_node(&child, nodes, leaves)?;
-                put(nodes, base1 + rank(made.vector, slot) - 1, node);
-            }
-        }
-    }
-    Some(Node {
+    put_leaves(leaves, base0, &hops, made.leaves);
+    let own = Node {
         vector: made.vector,
         leafvec: made.leafvec,
         base0,
         base1,
-    })
+    };
+    if made.nodes == 0 {
+        return Some(own);
+    }
+    for slot in 0..64u8 {
+        if (made.vector >> slot) & 1 == 1 {
+            let child = descend(region, slot, 6);
+            let node = build_node(&child, nodes, leaves)?;
+            put(nodes, base1 + rank(made.vector, slot) - 1, node);
+        }
+    }
+    Some(own)
 }

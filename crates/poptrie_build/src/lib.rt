@@ -18,7 +18,9 @@ mod key;
 mod lookup;
 mod making;
 mod node;
+mod putting;
 mod slots;
+mod surveying;
 mod tally;
 mod trie;
 

@@ -1,4 +1,4 @@
-use Rattle.buddy_arena.specs.Places.{is_out}
+use Rattle.buddy_arena.specs.Places.{Keeps, is_out}
 use Rattle.poptrie_build.proofs.Going.{Going, state}
 use Rattle.poptrie_build.proofs.Counting.{Counted}
 use Rattle.poptrie_build.proofs.Parted.{Parted}
@@ -15,6 +15,7 @@ invariant-loop-slot g l =
     (state l.nodes.cells (is_out l.nodes.free) l.leaves.cells (is_out l.leaves.free))
     l.slot
     × Counted (g.R.Region.bits l.region) (g.R.Region.answers l.region) l.fn.nodes l.nodes l.fn.leaves l.leaves l.slot
+    × Keeps 0 l.initial.leaves.cells (is_out l.initial.leaves.free) l.leaves.cells (is_out l.leaves.free)
     × Parted l.made.vector l.base1
     (state l.initial.nodes.cells (is_out l.initial.nodes.free) l.initial.leaves.cells (is_out l.initial.leaves.free))
     (state l.nodes.cells (is_out l.nodes.free) l.leaves.cells (is_out l.leaves.free))
