@@ -1,5 +1,5 @@
 -- The token of the event that is begun, as it is handed back.
-use Rattle.std.proofs.Common.{◌≡◌, ◌<◌, ℕ, Option, Some, None, refl, sym, ap, ◌∙◌, subst}
+use Rattle.std.proofs.Common.{◌≡◌, ◌<◌, Option, Some, None, sym, ap, ◌∙◌, subst}
 use Rattle.table_model.specs.declared.family.Family.{Family}
 use Rattle.poptrie_update.specs.Lives.{made_of, stores_left}
 use Rattle.poptrie_update.specs.declared.pending.Pending.{Pending}

@@ -6,3 +6,4 @@ pub mod Routing
 pub mod Looking
 pub mod Handing
 pub mod Stepping
+pub mod Finishing

@@ -1,6 +1,6 @@
 -- Both live tries as one of them is made ready, stored, ended or cancelled.
 use Rattle.std.proofs.Common.{◌≡◌, ℕ, suc, ◌+◌, ◌^◌, ◌<◌, ◌≤◌, List, Bool, true, false, Option, Some, None, Result, Ok, Err, refl, sym, ap, ◌∙◌, arith, subst}
-use Rattle.std.specs.Prelude.{IfOk, OnOk, OnErr, IfErr}
+use Rattle.std.specs.Prelude.{IfOk, OnOk, OnErr}
 use Rattle.table_model.specs.Address.{same_family}
 use Rattle.table_model.specs.declared.family.Family.{Family}
 use Rattle.table_model.specs.declared.family.Family.TheVariants.{V4, V6}
@@ -24,7 +24,6 @@ use Rattle.fib_engine.specs.Tables.{only}
 use Rattle.fib_router.specs.Errors.{IsHeldUp, IsSaidOf}
 use Rattle.fib_router.specs.Lives.{AreLives, HasRoomIn, IsFilledWith, IsLiveOf, IsNewLive, IsPendingOf, live_of}
 use Rattle.fib_router.specs.declared.error.NotBegun.{NotBegun}
-use Rattle.fib_router.specs.declared.error.NotBegun.TheVariants as error
 use Rattle.fib_router.specs.declared.lives.Lives as code_lives
 use Rattle.fib_router.proofs.Room.{not_too_much, room_alike, room_of}
 use Rattle.fib_router.proofs.Through.{answers_only, begun_elsewhere, begun_of, cancelled_elsewhere, cancelled_of, ended_elsewhere, ended_of, filled_of, is_waiting, still_of, stored_of}

@@ -1,17 +1,13 @@
 -- What a planned event is to the live tries, and what is said of one that isn't begun.
-use Rattle.std.proofs.Common.{◌≡◌, ◌<◌, ℕ, List, Bool, true, false, cond, Option, Some, None, Result, Ok, Err, refl, sym, ap, ◌∙◌, subst}
-use Rattle.std.specs.Prelude.{◌↔◌, IfErr, IsErrOf, OnOk, option_map}
+use Rattle.std.proofs.Common.{◌≡◌, Bool, false, cond, Option, Some, None, Result, Err, refl, sym, ap, ◌∙◌, subst}
 use Rattle.table_model.specs.Address.{Prefix, same_family}
 use Rattle.table_model.specs.declared.family.Family.{Family}
-use Rattle.table_model.specs.declared.family.Family.TheVariants.{V4, V6}
-use Rattle.table_model.specs.Entries.{Entries, match_in}
+use Rattle.table_model.specs.Entries.{Entries}
 use Rattle.route_model.specs.Events.{Elem}
 use Rattle.kept_model.specs.Kept.{changed_at}
-use Rattle.fib_addr.specs.declared.addr.Addr.{Addr}
 use Rattle.fib_addr.specs.declared.entry.Hop as code_hop
 use Rattle.fib_addr.specs.declared.prefix.Prefix as code_prefix
 use Rattle.fib_addr.specs.Answers.{all_answers}
-use Rattle.fib_addr.specs.Views.{prefix_as}
 use Rattle.poptrie_set.specs.declared.trie_set.Oldest.{Oldest}
 use Rattle.poptrie_update.specs.Lives.{Living}
 use Rattle.route_tries.specs.Parts.{AreAlikeOutside}
@@ -20,13 +16,13 @@ use Rattle.route_tries.specs.declared.sizes.TrieFull as code_full
 use Rattle.fib_engine.specs.Held.{EngineState, engine_routes}
 use Rattle.fib_engine.specs.Staged.{IsTurn, Staging, planned_route, routes_once, routes_planned}
 use Rattle.fib_engine.specs.Stands.{routes_after}
-use Rattle.fib_engine.specs.Tables.{Route, only, route_in}
+use Rattle.fib_engine.specs.Tables.{Route, route_in}
 use Rattle.fib_engine.specs.declared.error.EngineError.{EngineError}
 use Rattle.fib_engine.specs.declared.error.EngineError.TheVariants as engine
 use Rattle.fib_engine.specs.declared.staged.Planned.{Planned}
 use Rattle.fib_engine.proofs.Staging.{turned_elsewhere}
 use Rattle.fib_router.specs.Errors.{IsHeldUp, as_not_begun}
-use Rattle.fib_router.specs.Lives.{AreLives, live_of}
+use Rattle.fib_router.specs.Lives.{live_of}
 use Rattle.fib_router.specs.Router.{IsPinnedFor, Routing}
 use Rattle.fib_router.specs.declared.error.NotBegun.{NotBegun}
 use Rattle.fib_router.specs.declared.error.NotBegun.TheVariants as error

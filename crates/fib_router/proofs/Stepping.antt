@@ -1,12 +1,13 @@
 -- What a family's live trie keeps through the steps of an event, and the other one.
-use Rattle.std.proofs.Common.{◌≡◌, ◌<◌, ℕ, suc, List, [], ◌∷◌, ◌++◌, Bool, true, false, cond, Option, Some, None, refl, sym, ap, ◌∙◌, subst}
+use Rattle.std.proofs.Common.{◌≡◌, ℕ, suc, List, [], ◌∷◌, ◌++◌, Bool, true, false, Option, Some, None, refl, sym, subst}
 use Rattle.std.specs.Prelude.{IfOk, OnOk, Result, Ok, Err}
 use Rattle.table_model.specs.Address.{Prefix, same_family}
 use Rattle.table_model.specs.declared.family.Family.{Family}
 use Rattle.table_model.specs.declared.family.Family.TheVariants.{V4, V6}
 use Rattle.table_model.specs.Entries.{Entries}
 use Rattle.poptrie_set.specs.Prepares.{StoresJust}
-use Rattle.poptrie_update.specs.Lives.{HasShapeOf, KeepsStores, Living, Past, Shows, is_pending, is_selecting, made_of, stores_left}
+use Rattle.poptrie_update.specs.Cells.{KeepsAllReached}
+use Rattle.poptrie_update.specs.Lives.{HasShapeOf, Living, Past, Shows, is_pending, is_selecting, made_of, stores_left}
 use Rattle.poptrie_update.specs.Fits.{Fits, Open}
 use Rattle.poptrie_update.specs.Pendings.{IsTokenBy, IsTokenOf, IsSelectorOf}
 use Rattle.poptrie_update.specs.Prepares.{IsAtRest, IsCancelled, StoresBy}
@@ -16,7 +17,7 @@ use Rattle.poptrie_update.specs.declared.live.Other.TheVariants as other
 use Rattle.poptrie_update.specs.declared.pending.Pending.{Pending}
 use Rattle.poptrie_update.specs.declared.pending.Stores as code_stores
 use Rattle.poptrie_update.specs.declared.pending.Stores.TheVariants as stores
-use Rattle.fib_router.specs.Lives.{AreLives, CarriesOn, GoesBy, IsForgotten, IsPendingOf, IsReadyFor, Readies, StoresJustBy, StoresNext, live_of}
+use Rattle.fib_router.specs.Lives.{AreLives, GoesBy, IsForgotten, IsPendingOf, IsReadyFor, Readies, StoresJustBy, live_of}
 use Rattle.fib_router.specs.Router.{IsPendingIn, IsRestingFor, Routing}
 use Rattle.fib_router.specs.declared.error.NotBegun.{NotBegun}
 use Rattle.fib_router.specs.declared.error.NotBegun.TheVariants as error
@@ -103,6 +104,9 @@ each_by P self V6 old new own other V4 = subst (P old.v4) (sym (other V4 refl)) 
 
 pub readies_self : (who : Oldest) (l : Living) → Readies who l l
 readies_self who l = record { shape = (refl, refl, refl, refl); time = refl; fits = λ os i h. h; past = λ ns ls h. h }
+
+pub reached_self : (since : ℕ) (l : Living) → KeepsAllReached since l l
+reached_self since l = λ n t low high. record { nodes = λ i e. (e, refl); leaves = λ i e. (e, refl) }
 
 pub quiet_each : (held : EngineState) (t : code_lives.Lives) → AreLives held None t → (g : Family) → is_pending (live_of g t) ≡ false
 quiet_each held t l V4 = l.0.quiet refl

@@ -1,5 +1,5 @@
 -- A family's live trie through an event.
-use Rattle.std.proofs.Common.{◌≡◌, ℕ, suc, ◌+◌, ◌^◌, ◌<◌, ◌≤◌, List, [], ◌∷◌, Bool, true, false, cond, Option, Some, None, refl, sym, ap, ◌∙◌, arith, subst}
+use Rattle.std.proofs.Common.{◌≡◌, ℕ, suc, ◌+◌, ◌^◌, ◌<◌, ◌≤◌, List, [], ◌∷◌, Bool, true, false, cond, Some, None, refl, sym, ap, ◌∙◌, arith, subst}
 use Rattle.table_model.specs.Address.{Address, Prefix}
 use Rattle.table_model.specs.declared.family.Family.{Family}
 use Rattle.table_model.specs.Table.{Table, lpm}

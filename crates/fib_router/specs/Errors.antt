@@ -28,3 +28,10 @@ IsHeldUp who error.HopsFull l L M = ⊥
 IsHeldUp who (error.TrieFull t) l L M = ⊥
 IsHeldUp who (error.Pinned need cursor arena largest) l L M = IsNotReady who (why.Pinned need cursor arena largest) l L M
 IsHeldUp who error.NoMemory l L M = Unit {0}
+
+-- it isn't pinned
+abbrev pub IsUnpinned : NotBegun → Type 0
+IsUnpinned error.HopsFull = Unit {0}
+IsUnpinned (error.TrieFull t) = Unit {0}
+IsUnpinned (error.Pinned need cursor arena largest) = ⊥
+IsUnpinned error.NoMemory = Unit {0}

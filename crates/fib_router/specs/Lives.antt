@@ -6,12 +6,17 @@ use Rattle.table_model.specs.Entries.{Entries}
 use Rattle.route_model.specs.Events.{Elem}
 use Rattle.fib_addr.specs.Answers.{all_answers}
 use Rattle.poptrie_build.specs.Tries.{node_need, leaf_need}
+use Rattle.poptrie_set.specs.Fits.{until}
 use Rattle.poptrie_set.specs.Prepares.{StoresJust}
 use Rattle.poptrie_set.specs.declared.trie_set.Oldest.{Oldest}
+use Rattle.poptrie_set.specs.declared.trie_set.Oldest.TheVariants as oldest
+use Rattle.poptrie_update.specs.Cells.{KeepsAllReached}
 use Rattle.poptrie_update.specs.Fits.{Fits, IsOldest, Open}
-use Rattle.poptrie_update.specs.Lives.{HasShapeOf, KeepsStores, Living, Past, Shows, is_pending, made_of, stores_left}
+use Rattle.poptrie_update.specs.Lives.{HasShapeOf, KeepsStores, Living, Past, Shows, is_pending, made_of, retired_at_end, stores_left}
+use Rattle.poptrie_update.specs.Outs.{OutJust}
 use Rattle.poptrie_update.specs.Pendings.{IsTokenOf}
-use Rattle.poptrie_update.specs.Prepares.{IsCancelled}
+use Rattle.poptrie_update.specs.Prepares.{IsCancelled, IsMade, IsToWait, NoneRetired}
+use Rattle.poptrie_update.specs.Undone.{IsAsItWas, IsGivenBack, IsReadyAfter}
 use Rattle.poptrie_update.specs.declared.live.Other.{Other}
 use Rattle.poptrie_update.specs.declared.live.Other.TheVariants as other
 use Rattle.poptrie_update.specs.declared.pending.Pending.{Pending}
@@ -95,6 +100,28 @@ pub record IsReadyFor (L M : Entries) (l : Living) : Type 0 where
   pub shows : Shows l L M
   pub stores : StoresJustBy l.state l L M
 
+-- How it was made ready, from the first entries to the second, with its oldest open lookup. What no open lookup may be in was given back
+-- first. Then words were made if each block that is asked for was free in its turn, else a trie in the other set if that was free: there was
+-- no cause to wait. No cell that an open lookup can reach was written. If none is open nothing stays retired, and the blocks that are out
+-- are the present version's and the pending ones.
+pub record IsPrepared (who : Oldest) (p : Pending) (l r : Living) (L M : Entries) : Type 0 where
+  pub made : IsMade (until who l.selected.time) p l r L M
+  pub unpinned : IsToWait who l L M → ⊥
+  pub ready : (b : Living) × IsGivenBack (until who l.selected.time) l b × IsReadyAfter b r
+  pub cells : KeepsAllReached (until who l.selected.time) l r
+  pub alone : who ≡ oldest.Nobody → NoneRetired r × OutJust r L M
+
+-- it isn't made ready: but for what was given back it is as it was
+pub record IsUnprepared (who : Oldest) (l r : Living) : Type 0 where
+  pub back : (b : Living) × IsGivenBack (until who l.selected.time) l b × IsAsItWas b r
+  pub cells : KeepsAllReached (until who l.selected.time) l r
+  pub alone : who ≡ oldest.Nobody → NoneRetired r
+
+-- an event's update, if it has one, is of this family, and was made ready so
+abbrev pub IsPreparedBy : Oldest → Family → Option (Family × Pending) → Living → Living → Entries → Entries → Type 0
+IsPreparedBy who f None l r L M = ⊥
+IsPreparedBy who f (Some p) l r L M = (p.0 ≡ f) × IsPrepared who p.1 l r L M
+
 -- what stays where a store is made, or the update is forgotten
 pub record CarriesOn (l r : Living) : Type 0 where
   pub shape : HasShapeOf l r
@@ -120,6 +147,35 @@ pub record GoesBy (l r : Living) : Type 0 where
   pub fits : (os : List Open) → Fits l os → Fits r os
   pub shows : (L M : Entries) → Shows l L M → Shows r M M
   pub past : (L M : Entries) (ns ls : List ℕ) → Shows l L M → Past l ns ls → Past r (ns ++ node_need l.selected.family l.selected.direct_bits L ∷ []) (ls ++ leaf_need l.selected.family l.selected.direct_bits L ∷ [])
+
+-- if the selector was stored, the set that it replaced is retired at this end, else the other set is as it was
+abbrev pub RetiresOther : Living → Living → Type 0
+RetiresOther l r = r.state ≡ retired_at_end (suc l.selected.time) l.state
+
+-- what stays where some of its stores, or none, were made
+pub record StoresOn (l r : Living) : Type 0 where
+  pub carries : CarriesOn l r
+  pub pending : is_pending r ≡ is_pending l
+  pub idle : is_pending l ≡ false → r ≡ l
+  pub shows : (L M : Entries) → Shows l L M → Shows r L M
+  pub cells : KeepsAllReached 0 l r
+
+-- the stores that were left of its update were made, and then it was over
+pub record Finishes (l r : Living) : Type 0 where
+  pub shape : HasShapeOf l r
+  pub time : r.selected.time ≡ suc l.selected.time
+  pub quiet : is_pending r ≡ false
+  pub fits : (os : List Open) → Fits l os → Fits r os
+  pub shows : (L M : Entries) → Shows l L M → Shows r M M
+  pub past : (L M : Entries) (ns ls : List ℕ) → Shows l L M → Past l ns ls → Past r (ns ++ node_need l.selected.family l.selected.direct_bits L ∷ []) (ls ++ leaf_need l.selected.family l.selected.direct_bits L ∷ [])
+  pub cells : KeepsAllReached 0 l r
+
+-- an event was applied to it, before which it showed these entries: what they needed is what was replaced last
+pub record IsAppliedTo (L : Entries) (l r : Living) : Type 0 where
+  pub shape : HasShapeOf l r
+  pub time : r.selected.time ≡ suc l.selected.time
+  pub quiet : is_pending r ≡ false
+  pub past : (ns ls : List ℕ) → Past l ns ls → Past r (ns ++ node_need l.selected.family l.selected.direct_bits L ∷ []) (ls ++ leaf_need l.selected.family l.selected.direct_bits L ∷ [])
 
 -- its update is forgotten
 pub record IsForgotten (l r : Living) : Type 0 where

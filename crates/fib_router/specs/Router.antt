@@ -41,6 +41,10 @@ begun_elem b = elem_of_plan b.planned
 abbrev pub begun_hop : code_begun.Begun → Option (code_hop.Hop × Addr)
 begun_hop b = planned_hop b.planned
 
+-- its update of its family's trie, if it changes a chosen hop
+abbrev pub begun_update : code_begun.Begun → Option (Family × Pending)
+begun_update b = b.pending
+
 -- its update is pending in its family's trie, and nothing in the other; nothing in either if it changes no chosen hop
 abbrev pub IsPendingIn : Option (Family × Pending) → code_lives.Lives → Type 0
 IsPendingIn None t = (is_pending t.v4 ≡ false) × (is_pending t.v6 ≡ false)

@@ -7,9 +7,11 @@ ghost use Rattle.table_model.specs.declared.family.Family.{Family};
 ghost use Rattle.fib_addr.specs.Views.{prefix_as};
 ghost use Rattle.fib_addr.specs.Answers.{all_answers};
 ghost use Rattle.table_model.specs.Entries.{Entries};
-ghost use Rattle.poptrie_update.specs.Lives.{Shows, HasShapeOf, is_pending, made_of, stores_left};
+ghost use Rattle.poptrie_update.specs.Cells.{KeepsAllReached};
+ghost use Rattle.poptrie_update.specs.Lives.{Living, Shows, HasShapeOf, is_pending, made_of, stores_left};
 ghost use Rattle.poptrie_update.specs.Pendings.{IsTokenOf};
 ghost use Rattle.poptrie_update.specs.Prepares.{IsAtRest, IsCancelled};
+ghost use Rattle.poptrie_update.specs.Undone.{IsAsItWas, IsReadyAfter};
 ghost use Rattle.route_tries.specs.Parts.{AreAlikeOutside};
 ghost use Rattle.route_tries.specs.Sizes.{shortage};
 ghost use Rattle.fib_engine.specs.Held.{EngineState, engine_routes};
@@ -17,7 +19,7 @@ ghost use Rattle.fib_engine.specs.Staged.{routes_planned};
 ghost use Rattle.fib_engine.specs.Stands.{TakesElem};
 ghost use Rattle.poptrie_build.specs.declared.filling.TrieFull.{TrieFull as TooFull};
 ghost use Rattle.fib_router.specs.Errors.{IsHeldUp, IsSaidOf};
-ghost use Rattle.fib_router.specs.Lives.{AreLives, AreNewLives, GoesBy, HasRoomIn, IsFilledWith, IsForgotten, IsLiveOf, IsPendingOf, IsReadyFor, Readies, StoresJustBy, StoresNext, live_of};
+ghost use Rattle.fib_router.specs.Lives.{AreLives, AreNewLives, GoesBy, HasRoomIn, IsFilledWith, IsForgotten, IsLiveOf, IsPendingOf, IsPrepared, IsReadyFor, IsUnprepared, Readies, RetiresOther, StoresJustBy, StoresNext, live_of};
 
 use crate::error::NotBegun;
 use fib_addr::{Family, Prefix};
@@ -101,6 +103,9 @@ fn ready(
     ensures stores { OnOk result (StoresJustBy live.new.state live.new
         (engine_routes lower.now.held) (routes_planned lower.now)) }
     ensures kept { OnErr result ((L M : Entries) → Shows live.old L M → Shows live.new L M) }
+    ensures prepared { IfOk result (λ p. IsPrepared oldest p live.old live.new
+        (engine_routes lower.now.held) (routes_planned lower.now)) }
+    ensures unprepared { OnErr result (IsUnprepared oldest live.old live.new) }
 {
     let region = RouteRegion::whole(lower.tree(prefix.family));
     match live.prepare(&region, prefix, oldest) {
@@ -172,6 +177,11 @@ impl Lives {
             (routes_planned lower.now) (live_of prefix.now.family self.new)) }
         ensures kept { OnErr result ((L M : Entries) → Shows (live_of prefix.now.family self.old) L M
             → Shows (live_of prefix.now.family self.new) L M) }
+        ensures prepared { IfOk result (λ p. IsPrepared oldest p
+            (live_of prefix.now.family self.old) (live_of prefix.now.family self.new)
+            (engine_routes lower.now.held) (routes_planned lower.now)) }
+        ensures unprepared { OnErr result (IsUnprepared oldest
+            (live_of prefix.now.family self.old) (live_of prefix.now.family self.new)) }
         ensures other { (f : Family) → same_family prefix.now.family f ≡ false
             → live_of f self.new ≡ live_of f self.old }
     {
@@ -192,6 +202,7 @@ impl Lives {
         ensures none { result ≡ false → (stores_left (live_of family self.old) ≡ 0)
             × (self.new ≡ self.old) }
         ensures own { StoresNext result (live_of family self.old) (live_of family self.new) }
+        ensures cells { KeepsAllReached 0 (live_of family self.old) (live_of family self.new) }
         ensures other { (f : Family) → same_family family f ≡ false
             → live_of f self.new ≡ live_of f self.old }
     {
@@ -215,6 +226,10 @@ impl Lives {
         ensures lives { OnOk result ((e : Elem) (old new : EngineState) → TakesElem e old new
             → AreLives old (Some e) self.old → AreLives new None self.new) }
         ensures own { OnOk result (GoesBy (live_of family self.old) (live_of family self.new)) }
+        ensures retired { OnOk result (RetiresOther (live_of family self.old)
+            (live_of family self.new)) }
+        ensures cells { OnOk result (KeepsAllReached 0 (live_of family self.old)
+            (live_of family self.new)) }
         ensures other { (f : Family) → same_family family f ≡ false
             → live_of f self.new ≡ live_of f self.old }
     {
@@ -239,6 +254,10 @@ impl Lives {
         ensures lives { OnOk result ((held : EngineState) (e : Elem) → AreLives held (Some e) self.old
             → AreLives held None self.new) }
         ensures own { OnOk result (IsForgotten (live_of family self.old) (live_of family self.new)) }
+        ensures cells { OnOk result (KeepsAllReached 0 (live_of family self.old)
+            (live_of family self.new)) }
+        ensures before { OnOk result ((b : Living) → IsReadyAfter b (live_of family self.old)
+            → IsAsItWas b (live_of family self.new)) }
         ensures other { (f : Family) → same_family family f ≡ false
             → live_of f self.new ≡ live_of f self.old }
     {

@@ -1,6 +1,6 @@
 //! The engine with its live tries.
 
-ghost use Rattle.std.specs.Prelude.{◌≡◌, ◌<◌, ◌+◌, ◌^◌, ◌↔◌, ◌++◌, suc, [], ◌∷◌, List, Some, None, length, map, true, false, IfOk, IfErr, OnOk, OnErr, IsErrOf};
+ghost use Rattle.std.specs.Prelude.{◌≡◌, ◌<◌, ◌+◌, ◌^◌, ◌↔◌, ◌++◌, ◌⊎◌, suc, [], ◌∷◌, List, Some, None, length, map, true, false, IfOk, IfErr, OnOk, OnErr, IsErrOf};
 ghost use Rattle.table_model.specs.Address.{Prefix as model_prefix, same_family};
 ghost use Rattle.table_model.specs.Both.{aggregate_in_both};
 ghost use Rattle.table_model.specs.declared.family.Family.{Family};
@@ -10,19 +10,22 @@ ghost use Rattle.cert_model.specs.Views.{row_as};
 ghost use Rattle.route_model.specs.Events.{Elem as model_elem};
 ghost use Rattle.route_model.specs.Choice.{elems_of};
 ghost use Rattle.kept_model.specs.Kept.{changed_at};
+ghost use Rattle.moves_model.specs.Shortest.{AreShortest};
 ghost use Rattle.fib_addr.specs.Views.{addr_as, entry_as};
 ghost use Rattle.fib_prefix.specs.Views.{elem_as, event_as};
 ghost use Rattle.fib_delta.specs.Views.{change_as};
 ghost use Rattle.poptrie_build.specs.Tries.{visits_of};
-ghost use Rattle.poptrie_update.specs.Lives.{Shows, is_pending};
+ghost use Rattle.poptrie_update.specs.Cells.{KeepsAllReached};
+ghost use Rattle.poptrie_update.specs.Lives.{Living, Shows, is_pending};
+ghost use Rattle.poptrie_update.specs.Undone.{IsAsItWas, IsReadyAfter};
 ghost use Rattle.route_tries.specs.Sizes.{AreFew, needs_of, shortage};
 ghost use Rattle.route_tries.specs.declared.sizes.TrieFull.{TrieFull};
 ghost use Rattle.fib_engine.specs.Held.{engine_routes};
 ghost use Rattle.fib_engine.specs.Numbers.{brought_as, brought_by};
 ghost use Rattle.fib_engine.specs.Stands.{IsShortFor, IsTooMany, EngineStands, TakesElem, changes_of, first_of, routes_after};
-ghost use Rattle.fib_router.specs.Errors.{IsHeldUp};
-ghost use Rattle.fib_router.specs.Lives.{AreNewLives, GoesBy, IsForgotten, IsReadyFor, Readies, StoresNext, live_of};
-ghost use Rattle.fib_router.specs.Router.{IsBegunIn, IsPinnedFor, IsRestingFor, begun_elem, begun_hop, stores_left_of, stores_made_in, published_to};
+ghost use Rattle.fib_router.specs.Errors.{IsHeldUp, IsUnpinned};
+ghost use Rattle.fib_router.specs.Lives.{AreNewLives, Finishes, GoesBy, IsAppliedTo, IsForgotten, IsPreparedBy, IsReadyFor, IsUnprepared, Readies, RetiresOther, StoresNext, live_of};
+ghost use Rattle.fib_router.specs.Router.{IsBegunIn, IsPinnedFor, IsRestingFor, begun_elem, begun_hop, begun_update, stores_left_of, stores_made_in, published_to};
 
 use crate::error::NotBegun;
 use crate::lives::Lives;
@@ -101,8 +104,8 @@ impl Router {
     /// # Errors
     ///
     /// `HopsFull` exactly where the event brings one different hop too many, else `TrieFull` exactly where tries of the routes
-    /// after it need more than an arena has, of which it names the first; no memory; or pinned by the oldest lookup. But for what was
-    /// given back in its family's trie, all is as it was.
+    /// after it need more than an arena has, of which it names the first, else `Pinned` exactly where its family's trie is to wait for
+    /// the oldest lookup; or no memory. But for what was given back in that trie, all is as it was.
     pub fn begin(&mut self, elem: &Elem, oldest: Oldest) -> Result<Begun, NotBegun>
         requires rest { self.old.begun ≡ None }
         requires few { self.old.held.events + 1 < 2 ^ 64 }
@@ -137,6 +140,18 @@ impl Router {
         ensures quiet { OnErr result ((f : Family)
             → is_pending (live_of f self.new.lives) ≡ false) }
         ensures resting { IfErr result (IsRestingFor (elem_as elem.now) self.old) }
+        ensures idle { OnOk result ((f : Family) → ((p : model_prefix)
+            → changed_at self.old.held.candidates (elem_as elem.now) ≡ Some p
+            → same_family p.family f ≡ false)
+            → is_pending (live_of f self.new.lives) ≡ false) }
+        ensures prepared { IfOk result (λ b. (p : model_prefix)
+            → changed_at self.old.held.candidates (elem_as elem.now) ≡ Some p
+            → IsPreparedBy oldest p.family (begun_update b) (live_of p.family self.old.lives)
+            (live_of p.family self.new.lives) (engine_routes self.old.held)
+            (routes_after (elem_as elem.now) self.old.held)) }
+        ensures unprepared { OnErr result ((f : Family)
+            → (live_of f self.new.lives ≡ live_of f self.old.lives)
+            ⊎ IsUnprepared oldest (live_of f self.old.lives) (live_of f self.new.lives)) }
     {
         let planned = self.lower.plan(elem)?;
         let Some((prefix, _hop)) = planned.route() else {
@@ -170,6 +185,8 @@ impl Router {
             × (self.new ≡ self.old) }
         ensures own { (f : Family) → is_pending (live_of f self.old.lives) ≡ true
             → StoresNext result (live_of f self.old.lives) (live_of f self.new.lives) }
+        ensures cells { (f : Family) → KeepsAllReached 0 (live_of f self.old.lives)
+            (live_of f self.new.lives) }
         ensures other { (f : Family) → is_pending (live_of f self.old.lives) ≡ false
             → live_of f self.new.lives ≡ live_of f self.old.lives }
     {
@@ -195,12 +212,20 @@ impl Router {
             ≡ changes_of (begun_elem begun) self.old.held) }
         ensures first { IfOk result (λ e. e.first
             ≡ length (first_of (begun_elem begun) self.old.held)) }
+        ensures shortest { OnOk result (self.old.held.fewest ≡ true → (p : model_prefix)
+            → changed_at self.old.held.candidates (begun_elem begun) ≡ Some p
+            → AreShortest p.family (routes_after (begun_elem begun) self.old.held)
+            self.old.held.table (first_of (begun_elem begun) self.old.held)) }
         ensures stands { OnOk result ((load elems : List model_elem)
             → EngineStands load elems self.old.held
             → EngineStands load (elems ++ begun_elem begun ∷ []) self.new.held) }
         ensures fits { OnOk result (shortage self.new.held.sizes (engine_routes self.new.held) ≡ None) }
         ensures own { OnOk result ((f : Family) → is_pending (live_of f self.old.lives) ≡ true
             → GoesBy (live_of f self.old.lives) (live_of f self.new.lives)) }
+        ensures retired { OnOk result ((f : Family) → is_pending (live_of f self.old.lives) ≡ true
+            → RetiresOther (live_of f self.old.lives) (live_of f self.new.lives)) }
+        ensures cells { OnOk result ((f : Family) → KeepsAllReached 0 (live_of f self.old.lives)
+            (live_of f self.new.lives)) }
         ensures other { OnOk result ((f : Family) → is_pending (live_of f self.old.lives) ≡ false
             → live_of f self.new.lives ≡ live_of f self.old.lives) }
     {
@@ -225,9 +250,17 @@ impl Router {
         ensures changes { map change_as result.changes.items
             ≡ changes_of (begun_elem begun) self.old.held }
         ensures first { result.first ≡ length (first_of (begun_elem begun) self.old.held) }
+        ensures shortest { self.old.held.fewest ≡ true → (p : model_prefix)
+            → changed_at self.old.held.candidates (begun_elem begun) ≡ Some p
+            → AreShortest p.family (routes_after (begun_elem begun) self.old.held)
+            self.old.held.table (first_of (begun_elem begun) self.old.held) }
         ensures stands { (load elems : List model_elem) → EngineStands load elems self.old.held
             → EngineStands load (elems ++ begun_elem begun ∷ []) self.new.held }
         ensures fits { shortage self.new.held.sizes (engine_routes self.new.held) ≡ None }
+        ensures own { (f : Family) → is_pending (live_of f self.old.lives) ≡ true
+            → Finishes (live_of f self.old.lives) (live_of f self.new.lives) }
+        ensures other { (f : Family) → is_pending (live_of f self.old.lives) ≡ false
+            → live_of f self.new.lives ≡ live_of f self.old.lives }
     {
         let mut begun = begun;
         while self.store(&mut begun) {}
@@ -241,7 +274,7 @@ impl Router {
     ///
     /// # Errors
     ///
-    /// As `begin`'s, but for the pinned.
+    /// As `begin`'s, but never `Pinned`.
     pub fn apply(&mut self, elem: &Elem) -> Result<EventChanges, NotBegun>
         requires rest { self.old.begun ≡ None }
         requires few { self.old.held.events + 1 < 2 ^ 64 }
@@ -251,6 +284,10 @@ impl Router {
             ≡ changes_of (elem_as elem.now) self.old.held) }
         ensures first { IfOk result (λ e. e.first
             ≡ length (first_of (elem_as elem.now) self.old.held)) }
+        ensures shortest { OnOk result (self.old.held.fewest ≡ true → (p : model_prefix)
+            → changed_at self.old.held.candidates (elem_as elem.now) ≡ Some p
+            → AreShortest p.family (routes_after (elem_as elem.now) self.old.held)
+            self.old.held.table (first_of (elem_as elem.now) self.old.held)) }
         ensures stands { OnOk result ((load elems : List model_elem)
             → EngineStands load elems self.old.held
             → EngineStands load (elems ++ elem_as elem.now ∷ []) self.new.held) }
@@ -260,7 +297,16 @@ impl Router {
             (engine_routes self.new.held) ≡ None) }
         ensures short { (t : TrieFull) → IsErrOf result (NotBegun.TrieFull t)
             → IsShortFor self.old.held (routes_after (elem_as elem.now) self.old.held) t }
+        ensures unpinned { IfErr result IsUnpinned }
         ensures err { OnErr result (self.new.held ≡ self.old.held) }
+        ensures own { OnOk result ((p : model_prefix)
+            → changed_at self.old.held.candidates (elem_as elem.now) ≡ Some p
+            → IsAppliedTo (engine_routes self.old.held) (live_of p.family self.old.lives)
+            (live_of p.family self.new.lives)) }
+        ensures other { OnOk result ((f : Family) → ((p : model_prefix)
+            → changed_at self.old.held.candidates (elem_as elem.now) ≡ Some p
+            → same_family p.family f ≡ false)
+            → live_of f self.new.lives ≡ live_of f self.old.lives) }
     {
         let begun = self.begin(elem, Oldest::Nobody)?;
         Ok(self.finish(begun))
@@ -280,6 +326,11 @@ impl Router {
         ensures held { OnOk result (self.new.held ≡ self.old.held) }
         ensures own { OnOk result ((f : Family) → is_pending (live_of f self.old.lives) ≡ true
             → IsForgotten (live_of f self.old.lives) (live_of f self.new.lives)) }
+        ensures cells { OnOk result ((f : Family) → KeepsAllReached 0 (live_of f self.old.lives)
+            (live_of f self.new.lives)) }
+        ensures before { OnOk result ((f : Family) → is_pending (live_of f self.old.lives) ≡ true
+            → (b : Living) → IsReadyAfter b (live_of f self.old.lives)
+            → IsAsItWas b (live_of f self.new.lives)) }
         ensures other { OnOk result ((f : Family) → is_pending (live_of f self.old.lives) ≡ false
             → live_of f self.new.lives ≡ live_of f self.old.lives) }
     {

@@ -25,3 +25,4 @@ pub mod Ranges
 pub mod Late
 pub mod Short
 pub mod Crowded
+pub mod Given_once

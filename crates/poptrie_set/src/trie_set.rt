@@ -87,6 +87,8 @@ impl TrieSet {
     ghost use Rattle.table_model.specs.Entries.{Entries, match_in};
     ghost use Rattle.fib_addr.specs.Answers.{all_answers};
     ghost use Rattle.buddy_arena.specs.Blocks.{GivesBack, late};
+    ghost use Rattle.buddy_arena.specs.Space.{Space};
+    ghost use Rattle.poptrie_build.specs.declared.node.Node.{Node};
     ghost use Rattle.poptrie_build.specs.Tries.{node_need, leaf_need, visits_of};
     ghost use Rattle.poptrie_set.specs.Lives.{Seen, ShowsIn, HasSizesOf, IsTokenIn, IsTooMuchFor, KeepsBlocks};
     ghost use Rattle.poptrie_set.specs.Fits.{Reader, FitsIn, IsOldestOf, until};
@@ -205,6 +207,10 @@ impl TrieSet {
         ensures still { (self.old.nodes.taken ≡ []) × (self.old.leaves.taken ≡ []) }
         ensures given { GaveBack (until oldest self.old.time) self.old self.new.nodes.space
             self.new.leaves.space }
+        ensures just { (nodes : Space Node) (leaves : Space ℕ)
+            → GaveBack (until oldest self.old.time) self.old nodes leaves
+            → (nodes.free ≡ self.new.nodes.space.free)
+            × (leaves.free ≡ self.new.leaves.space.free) }
         ensures shows { (L M : Entries) → ShowsIn self.old L M → ShowsIn self.new L M }
         ensures cells { KeepsCells (until oldest self.old.time) self.old self.new }
         ensures fits { (os : List Reader) → IsOldestOf oldest os → FitsIn self.old os

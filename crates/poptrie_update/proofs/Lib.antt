@@ -2,6 +2,7 @@ pub mod Pair
 pub mod Short
 pub mod Rebuilt
 pub mod Made
+pub mod Unpinned
 pub mod Outside
 pub mod Tables
 pub mod Unreached

@@ -53,7 +53,7 @@ module _ (old mid : Living) (shape : HasShapeOf old mid) (L M : Entries) where
       let x = asked (λ f d. (node_need f d M ≤ 2 ^ nodes.order) × (leaf_need f d M ≤ 2 ^ leaves.order) × RunsOut nodes.order leaves.order (asks_of f d L M) (nodes.free, leaves.free) first) (r.nodes_fit, r.leaves_fit, r.refused) in
       record { nodes_fit = x.0; leaves_fit = x.1; refused = x.2 }
 
-  made_in : (since : ℕ) (new : Living) (p : Stores) → mid.state ≡ freed since old.state → IsBeside p mid new L M → IsMadeIn since p old new L M mid.selected.nodes.space mid.selected.leaves.space
+  pub made_in : (since : ℕ) (new : Living) (p : Stores) → mid.state ≡ freed since old.state → IsBeside p mid new L M → IsMadeIn since p old new L M mid.selected.nodes.space mid.selected.leaves.space
   made_in since new (stores.Words w) e x = (x.0 ∙ e, asked (λ f d. MeetsInTurn mid.selected.nodes.space.order mid.selected.leaves.space.order (asks_of f d L M) (mid.selected.nodes.space.free, mid.selected.leaves.space.free) (new.selected.nodes.space.free, new.selected.leaves.space.free)) x.1)
   made_in since new (stores.Selector stored) e x = (free_by since old.state (sym e ∙ x.0), (x.1.0, short mid.selected.nodes.space mid.selected.leaves.space x.1.0 x.1.1))
 

@@ -87,6 +87,10 @@ IsPinned who old L M need cursor arena e =
     × (need ≡ 2 ^ e.order)
     × ((nodes : Space Node) × (leaves : Space ℕ) × GaveBack since old.selected nodes leaves × RunsShort old.selected L M nodes leaves (refusal_in arena e))
 
+-- some block is refused so: the update is to wait for the oldest lookup
+abbrev pub IsToWait : Oldest → Living → Entries → Entries → Type 0
+IsToWait who old L M = (need : ℕ) × (cursor : ℕ) × (arena : ℕ) × (e : Full) × IsPinned who old L M need cursor arena e
+
 -- why an update isn't made ready
 abbrev pub IsNotReady : Oldest → NotReady → Living → Entries → Entries → Type 0
 IsNotReady who why.Memory old L M = Unit {0}

@@ -92,6 +92,8 @@ impl Live {
     ghost use Rattle.fib_addr.specs.Views.{addr_as, prefix_as};
     ghost use Rattle.table_model.specs.Entries.{Entries, match_in};
     ghost use Rattle.fib_addr.specs.Answers.{all_answers};
+    ghost use Rattle.buddy_arena.specs.Space.{Space};
+    ghost use Rattle.poptrie_build.specs.declared.node.Node.{Node};
     ghost use Rattle.poptrie_build.specs.Tries.{node_need, leaf_need, visits_of};
     ghost use Rattle.poptrie_set.specs.Lives.{IsTooMuchFor};
     ghost use Rattle.poptrie_set.specs.Fits.{until};
@@ -105,7 +107,7 @@ impl Live {
     ghost use Rattle.poptrie_update.specs.Outs.{OutJust};
     ghost use Rattle.poptrie_update.specs.Undone.{IsGivenBack, IsReadyAfter, IsSameOther, IsAsItWas};
     ghost use Rattle.poptrie_update.specs.Cells.{KeepsAllReached};
-    ghost use Rattle.poptrie_update.specs.Prepares.{IsAtRest, NoneRetired, StoresChanges, IsMade, IsNotReady, IsUndone, IsCancelled, IsBeside, IsNotBeside, IsShort};
+    ghost use Rattle.poptrie_update.specs.Prepares.{IsAtRest, NoneRetired, StoresChanges, IsMade, IsNotReady, IsToWait, IsUndone, IsCancelled, IsBeside, IsNotBeside, IsShort};
     ghost use Rattle.poptrie_set.specs.declared.trie_set.Oldest.TheVariants as Oldest;
     ghost use Rattle.poptrie_update.specs.declared.live.Other.TheVariants as other;
     ghost use Rattle.poptrie_update.specs.declared.pending.Stores.TheVariants as stores;
@@ -202,6 +204,10 @@ impl Live {
         ensures rest { IsAtRest self.old }
         ensures given { GaveBack (until oldest self.old.selected.time) self.old.selected
             self.new.selected.nodes.space self.new.selected.leaves.space }
+        ensures just { (nodes : Space Node) (leaves : Space ℕ)
+            → GaveBack (until oldest self.old.selected.time) self.old.selected nodes leaves
+            → (nodes.free ≡ self.new.selected.nodes.space.free)
+            × (leaves.free ≡ self.new.selected.leaves.space.free) }
         ensures back { IsGivenBack (until oldest self.old.selected.time) self.old self.new }
         ensures all { oldest ≡ Oldest.Nobody → NoneRetired self.new }
         ensures shows { (L M : Entries) → Shows self.old L M → Shows self.new L M }
@@ -267,6 +273,9 @@ impl Live {
         ensures refused { IfErr result (λ e. (L M : Entries) → Shows self.old L L
             → R.answers region.now ≡ all_answers self.old.selected.family M
             → AgreeOutside (prefix_as prefix.now) L M → IsNotReady oldest e self.old L M) }
+        ensures unpinned { OnOk result ((L M : Entries) → Shows self.old L L
+            → R.answers region.now ≡ all_answers self.old.selected.family M
+            → AgreeOutside (prefix_as prefix.now) L M → IsToWait oldest self.old L M → ⊥) }
         ensures ready { OnOk result ((b : Living)
             × IsGivenBack (until oldest self.old.selected.time) self.old b
             × IsReadyAfter b self.new) }

@@ -59,3 +59,21 @@ returns-in-Ok-clause-readies c = record { shape = c.prepare.ensures.shape; time 
 
 pub returns-in-Err-clause-readies : goal.returns-in-Err-clause-readies
 returns-in-Err-clause-readies c = record { shape = c.prepare.ensures.shape; time = c.prepare.ensures.time; fits = c.prepare.ensures.fits; past = c.prepare.ensures.past }
+
+pub returns-in-Ok-clause-prepared : goal.returns-in-Ok-clause-prepared
+returns-in-Ok-clause-prepared c =
+    let l = c.args.lower.now in
+    let L = engine_routes l.held in
+    let M = routes_planned l in
+    let region = region_is c.args.prefix.now.family c.tree.result.now.family c.args.live.now.selected.family c.tree.result.now.routes M _ c.whole-region.ensures.answers c.tree.ensures.family c.tree.ensures.routes c.requires.rest.family in
+    let outside = agree_outside (prefix_as c.args.prefix.now) L M c.requires.within in
+    record {
+      made = c.in-Ok.ensures.made L M c.requires.rest.shows region outside;
+      unpinned = c.in-Ok.ensures.unpinned L M c.requires.rest.shows region outside;
+      ready = c.in-Ok.ensures.ready;
+      cells = c.prepare.ensures.cells;
+      alone = λ e. (c.prepare.ensures.all e, c.prepare.ensures.out e L M (c.in-Ok.ensures.shows L M c.requires.rest.shows region outside));
+    }
+
+pub returns-in-Err-clause-unprepared : goal.returns-in-Err-clause-unprepared
+returns-in-Err-clause-unprepared c = record { back = c.in-Err.ensures.back; cells = c.prepare.ensures.cells; alone = c.prepare.ensures.all }

@@ -1,6 +1,9 @@
 use Rattle.std.specs.Prelude.{OnOk}
 use Rattle.std.proofs.Common.{sym, subst}
 use Rattle.table_model.specs.declared.family.Family.{Family}
+use Rattle.poptrie_update.specs.Cells.{KeepsAllReached}
+use Rattle.poptrie_update.specs.Lives.{Living}
+use Rattle.poptrie_update.specs.Undone.{IsAsItWas, IsReadyAfter}
 use Rattle.fib_router.specs.Lives.{IsForgotten, IsPendingOf, live_of}
 use Rattle.fib_router.specs.declared.lives.Lives.{Lives}
 use Rattle.fib_router.proofs.Readying.{cancelled_high, cancelled_low}
@@ -40,3 +43,23 @@ returns-in-V6-clause-own c =
 
 pub returns-in-V6-clause-other : goal.returns-in-V6-clause-other
 returns-in-V6-clause-other c = λ g apart. high_other c.args.self.now c.cancel-in-V6.new.self c.args.family g c.in-V6.is apart
+
+pub returns-in-V4-clause-cells : goal.returns-in-V4-clause-cells
+returns-in-V4-clause-cells c =
+    let t : Lives = record { v4 = c.cancel.new.self; v6 = c.args.self.now.v6 } in
+    subst (λ (f : Family). OnOk c.cancel.result (KeepsAllReached 0 (live_of f c.args.self.now) (live_of f t))) (sym c.in-V4.is) c.cancel.ensures.cells
+
+pub returns-in-V4-clause-before : goal.returns-in-V4-clause-before
+returns-in-V4-clause-before c =
+    let t : Lives = record { v4 = c.cancel.new.self; v6 = c.args.self.now.v6 } in
+    subst (λ (f : Family). OnOk c.cancel.result ((b : Living) → IsReadyAfter b (live_of f c.args.self.now) → IsAsItWas b (live_of f t))) (sym c.in-V4.is) c.cancel.ensures.before
+
+pub returns-in-V6-clause-cells : goal.returns-in-V6-clause-cells
+returns-in-V6-clause-cells c =
+    let t : Lives = record { v4 = c.args.self.now.v4; v6 = c.cancel-in-V6.new.self } in
+    subst (λ (f : Family). OnOk c.cancel-in-V6.result (KeepsAllReached 0 (live_of f c.args.self.now) (live_of f t))) (sym c.in-V6.is) c.cancel-in-V6.ensures.cells
+
+pub returns-in-V6-clause-before : goal.returns-in-V6-clause-before
+returns-in-V6-clause-before c =
+    let t : Lives = record { v4 = c.args.self.now.v4; v6 = c.cancel-in-V6.new.self } in
+    subst (λ (f : Family). OnOk c.cancel-in-V6.result ((b : Living) → IsReadyAfter b (live_of f c.args.self.now) → IsAsItWas b (live_of f t))) (sym c.in-V6.is) c.cancel-in-V6.ensures.before

@@ -1,7 +1,8 @@
 use Rattle.std.specs.Prelude.{OnOk}
-use Rattle.std.proofs.Common.{◌≡◌, ◌<◌, sym, subst}
+use Rattle.std.proofs.Common.{◌<◌, sym, subst}
 use Rattle.table_model.specs.declared.family.Family.{Family}
-use Rattle.fib_router.specs.Lives.{GoesBy, IsPendingOf, live_of}
+use Rattle.poptrie_update.specs.Cells.{KeepsAllReached}
+use Rattle.fib_router.specs.Lives.{GoesBy, IsPendingOf, RetiresOther, live_of}
 use Rattle.fib_router.specs.declared.lives.Lives.{Lives}
 use Rattle.fib_router.proofs.Readying.{ended_high, ended_low}
 use Rattle.fib_router.proofs.Stepping.{goes_by, high_other, low_other}
@@ -46,3 +47,23 @@ returns-in-V6-clause-own c =
 
 pub returns-in-V6-clause-other : goal.returns-in-V6-clause-other
 returns-in-V6-clause-other c = λ g apart. high_other c.args.self.now c.end-in-V6.new.self c.args.family g c.in-V6.is apart
+
+pub returns-in-V4-clause-cells : goal.returns-in-V4-clause-cells
+returns-in-V4-clause-cells c =
+    let t : Lives = record { v4 = c.end.new.self; v6 = c.args.self.now.v6 } in
+    subst (λ (f : Family). OnOk c.end.result (KeepsAllReached 0 (live_of f c.args.self.now) (live_of f t))) (sym c.in-V4.is) c.end.ensures.cells
+
+pub returns-in-V6-clause-cells : goal.returns-in-V6-clause-cells
+returns-in-V6-clause-cells c =
+    let t : Lives = record { v4 = c.args.self.now.v4; v6 = c.end-in-V6.new.self } in
+    subst (λ (f : Family). OnOk c.end-in-V6.result (KeepsAllReached 0 (live_of f c.args.self.now) (live_of f t))) (sym c.in-V6.is) c.end-in-V6.ensures.cells
+
+pub returns-in-V4-clause-retired : goal.returns-in-V4-clause-retired
+returns-in-V4-clause-retired c =
+    let t : Lives = record { v4 = c.end.new.self; v6 = c.args.self.now.v6 } in
+    subst (λ (f : Family). OnOk c.end.result (RetiresOther (live_of f c.args.self.now) (live_of f t))) (sym c.in-V4.is) c.end.ensures.other
+
+pub returns-in-V6-clause-retired : goal.returns-in-V6-clause-retired
+returns-in-V6-clause-retired c =
+    let t : Lives = record { v4 = c.args.self.now.v4; v6 = c.end-in-V6.new.self } in
+    subst (λ (f : Family). OnOk c.end-in-V6.result (RetiresOther (live_of f c.args.self.now) (live_of f t))) (sym c.in-V6.is) c.end-in-V6.ensures.other

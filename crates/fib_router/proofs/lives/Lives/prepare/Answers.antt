@@ -1,16 +1,14 @@
-use Rattle.std.proofs.Common.{◌≡◌, false, refl, sym, subst}
+use Rattle.std.proofs.Common.{◌≡◌, refl, sym, subst}
 use Rattle.std.specs.Prelude.{IfErr, IfOk, OnErr, OnOk}
-use Rattle.std.proofs.lemmas.Result.{IfOk-weaker}
 use Rattle.table_model.specs.declared.family.Family.{Family}
 use Rattle.table_model.specs.declared.family.Family.TheVariants.{V4, V6}
 use Rattle.table_model.specs.Entries.{Entries}
 use Rattle.poptrie_update.specs.Lives.{Shows, made_of}
 use Rattle.poptrie_update.specs.Prepares.{IsAtRest}
-use Rattle.poptrie_update.specs.Pendings.{IsTokenOf}
 use Rattle.fib_engine.specs.Held.{engine_routes}
 use Rattle.fib_engine.specs.Staged.{routes_planned}
 use Rattle.fib_router.specs.Errors.{IsHeldUp}
-use Rattle.fib_router.specs.Lives.{IsLiveOf, IsPendingOf, IsReadyFor, Readies, live_of}
+use Rattle.fib_router.specs.Lives.{IsLiveOf, IsPrepared, IsReadyFor, IsUnprepared, Readies, live_of}
 use Rattle.fib_router.specs.declared.lives.Lives.{Lives}
 use Rattle.fib_router.proofs.Readying.{apart_from, made_in_live, pending_high, pending_low, ready_high, ready_low, still_high, still_low}
 use Rattle.fib_router.proofs.Stepping.{high_other, low_other, ready_live}
@@ -111,3 +109,25 @@ returns-in-V6-clause-kept c =
 
 pub returns-in-V6-clause-other : goal.returns-in-V6-clause-other
 returns-in-V6-clause-other c = λ g apart. high_other c.args.self.now c.ready-in-V6.new.live c.args.prefix.now.family g c.in-V6.is apart
+
+pub returns-in-V4-clause-prepared : goal.returns-in-V4-clause-prepared
+returns-in-V4-clause-prepared c =
+    let t : Lives = record { v4 = c.ready.new.live; v6 = c.args.self.now.v6 } in
+    let l = c.args.lower.now in
+    subst (λ (f : Family). IfOk c.ready.result (λ p. IsPrepared c.args.oldest p (live_of f c.args.self.now) (live_of f t) (engine_routes l.held) (routes_planned l))) (sym c.in-V4.is) c.ready.ensures.prepared
+
+pub returns-in-V4-clause-unprepared : goal.returns-in-V4-clause-unprepared
+returns-in-V4-clause-unprepared c =
+    let t : Lives = record { v4 = c.ready.new.live; v6 = c.args.self.now.v6 } in
+    subst (λ (f : Family). OnErr c.ready.result (IsUnprepared c.args.oldest (live_of f c.args.self.now) (live_of f t))) (sym c.in-V4.is) c.ready.ensures.unprepared
+
+pub returns-in-V6-clause-prepared : goal.returns-in-V6-clause-prepared
+returns-in-V6-clause-prepared c =
+    let t : Lives = record { v4 = c.args.self.now.v4; v6 = c.ready-in-V6.new.live } in
+    let l = c.args.lower.now in
+    subst (λ (f : Family). IfOk c.ready-in-V6.result (λ p. IsPrepared c.args.oldest p (live_of f c.args.self.now) (live_of f t) (engine_routes l.held) (routes_planned l))) (sym c.in-V6.is) c.ready-in-V6.ensures.prepared
+
+pub returns-in-V6-clause-unprepared : goal.returns-in-V6-clause-unprepared
+returns-in-V6-clause-unprepared c =
+    let t : Lives = record { v4 = c.args.self.now.v4; v6 = c.ready-in-V6.new.live } in
+    subst (λ (f : Family). OnErr c.ready-in-V6.result (IsUnprepared c.args.oldest (live_of f c.args.self.now) (live_of f t))) (sym c.in-V6.is) c.ready-in-V6.ensures.unprepared

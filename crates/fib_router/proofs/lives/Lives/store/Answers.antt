@@ -1,5 +1,6 @@
 use Rattle.std.proofs.Common.{◌≡◌, true, suc, sym, subst}
 use Rattle.table_model.specs.declared.family.Family.{Family}
+use Rattle.poptrie_update.specs.Cells.{KeepsAllReached}
 use Rattle.poptrie_update.specs.Lives.{stores_left}
 use Rattle.fib_router.specs.Lives.{IsPendingOf, StoresNext, live_of}
 use Rattle.fib_router.specs.declared.lives.Lives.{Lives}
@@ -71,3 +72,13 @@ returns-in-V6-clause-own c =
 
 pub returns-in-V6-clause-other : goal.returns-in-V6-clause-other
 returns-in-V6-clause-other c = λ g apart. high_other c.args.self.now c.store-in-V6.new.self c.args.family g c.in-V6.is apart
+
+pub returns-in-V4-clause-cells : goal.returns-in-V4-clause-cells
+returns-in-V4-clause-cells c =
+    let t : Lives = record { v4 = c.store.new.self; v6 = c.args.self.now.v6 } in
+    subst (λ (f : Family). KeepsAllReached 0 (live_of f c.args.self.now) (live_of f t)) (sym c.in-V4.is) c.store.ensures.cells
+
+pub returns-in-V6-clause-cells : goal.returns-in-V6-clause-cells
+returns-in-V6-clause-cells c =
+    let t : Lives = record { v4 = c.args.self.now.v4; v6 = c.store-in-V6.new.self } in
+    subst (λ (f : Family). KeepsAllReached 0 (live_of f c.args.self.now) (live_of f t)) (sym c.in-V6.is) c.store-in-V6.ensures.cells

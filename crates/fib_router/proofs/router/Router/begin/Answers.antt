@@ -1,28 +1,23 @@
-use Rattle.std.proofs.Common.{◌≡◌, ◌<◌, ◌+◌, ◌^◌, false, Option, Some, None, Result, Err, refl, sym, ap, ◌∙◌, subst}
-use Rattle.std.specs.Prelude.{IfErr, option_map}
-use Rattle.std.proofs.lemmas.Result.{err_from_is_err_and}
+use Rattle.std.proofs.Common.{◌≡◌, ◌<◌, ◌+◌, ◌^◌, Option, Some, None, inl, inr, refl, sym, ap, ◌∙◌, subst}
+use Rattle.std.specs.Prelude.{◌⊎◌, option_map}
 use Rattle.table_model.specs.Address.{Prefix}
 use Rattle.route_model.specs.Events.{Elem}
 use Rattle.kept_model.specs.Kept.{changed_at}
 use Rattle.fib_addr.specs.Views.{prefix_as}
 use Rattle.fib_prefix.specs.Views.{elem_as}
 use Rattle.fib_engine.specs.Held.{EngineState}
-use Rattle.fib_engine.specs.Staged.{Staging, planned_route}
-use Rattle.fib_engine.specs.Stands.{IsShortFor, IsTooMany, routes_after}
-use Rattle.table_model.specs.Address.{same_family}
+use Rattle.fib_engine.specs.Staged.{planned_route}
+use Rattle.fib_engine.specs.Stands.{routes_after}
 use Rattle.table_model.specs.declared.family.Family.{Family}
 use Rattle.table_model.specs.Entries.{Entries}
 use Rattle.poptrie_update.specs.Lives.{Living, Shows, is_pending}
 use Rattle.fib_engine.specs.Held.{engine_routes}
-use Rattle.fib_engine.specs.Staged.{routes_planned, routes_once}
-use Rattle.fib_router.specs.declared.lives.Lives as code_lives
-use Rattle.fib_router.specs.Lives.{AreLives, IsReadyFor, Readies, live_of}
+use Rattle.fib_engine.specs.Staged.{routes_once}
+use Rattle.fib_router.specs.Lives.{AreLives, IsPrepared, IsReadyFor, IsUnprepared, Readies, live_of}
 use Rattle.fib_router.specs.Router.{IsPinnedFor, IsRestingFor, Routing}
-use Rattle.fib_router.specs.declared.error.NotBegun.{NotBegun}
-use Rattle.fib_router.specs.declared.router.Begun.{Begun}
 use Rattle.fib_router.proofs.Readying.{begun_both}
-use Rattle.fib_router.proofs.Routing.{err_same, fits_planned, full_said, hindered_not_full, hindered_not_hops, hindered_now, hops_said, not_pinned, pinned_by, routed_elsewhere, routed_nowhere, still_now, within_now}
-use Rattle.fib_router.proofs.Stepping.{each_by, not_resting, quiet_each, readies_self, resting_by, same_there}
+use Rattle.fib_router.proofs.Routing.{fits_planned, hindered_now, pinned_by, routed_elsewhere, routed_nowhere, still_now, within_now}
+use Rattle.fib_router.proofs.Stepping.{each_by, quiet_each, readies_self, resting_by, same_there}
 use Rattle.fib_router.proofs.router.Router.begin.Goals as goal
 
 pub prepare-requires-clause-rest : goal.prepare-requires-clause-rest
@@ -136,3 +131,44 @@ pub returns-in_default-clause-readies : goal.returns-in_default-clause-readies
 returns-in_default-clause-readies c =
     let t = c.self.inside in
     subst (λ (r : Routing). (f : Family) → Readies c.args.oldest (live_of f r.lives) (live_of f t.lives)) c.self.view_is (λ f. readies_self c.args.oldest (live_of f t.lives))
+
+pub returns-in-Ok-clause-prepared : goal.returns-in-Ok-clause-prepared
+returns-in-Ok-clause-prepared c = λ p is.
+    let t = c.self.inside in
+    let e = elem_as c.args.elem.now in
+    let old : Routing = record { held = t.lower.held; begun = t.lower.planned; lives = t.lives } in
+    let at = sym c.in_ok-planned.ensures.changed ∙ ap (option_map (λ r. prefix_as r.0)) (sym c.route.ensures ∙ c.in-Some.is) in
+    let q = c.plan.new.self in
+    let new = c.prepare.new.self in
+    let now : changed_at old.held.candidates e ≡ Some p = ap (λ (r : Routing). changed_at r.held.candidates e) c.self.view_is ∙ is in
+    let there = same_there e old (prefix_as c.in-Some.prefix) p at now in
+    let f = c.in-Some.prefix.family in (
+      ap (λ (x : Prefix). x.family) (sym there),
+      subst (λ (r : Routing). IsPrepared c.args.oldest c.in-Ok.pending (live_of p.family r.lives) (live_of p.family new) (engine_routes r.held) (routes_after e r.held)) c.self.view_is
+          (subst (λ (x : Prefix). IsPrepared c.args.oldest c.in-Ok.pending (live_of x.family t.lives) (live_of x.family new) (engine_routes old.held) (routes_after e old.held)) (sym there)
+          (subst (λ (h : EngineState). IsPrepared c.args.oldest c.in-Ok.pending (live_of f t.lives) (live_of f new) (engine_routes h) (routes_after e h)) c.plan.ensures.held
+          (subst (λ (o : Option Elem). IsPrepared c.args.oldest c.in-Ok.pending (live_of f t.lives) (live_of f new) (engine_routes q.held) (routes_once o q.held)) c.in_ok-planned.ensures.planned c.in-Ok.ensures.prepared))),
+    )
+
+pub returns-in-Err-clause-unprepared : goal.returns-in-Err-clause-unprepared
+returns-in-Err-clause-unprepared c =
+    subst (λ (r : Routing). (f : Family) → (live_of f c.prepare.new.self ≡ live_of f r.lives) ⊎ IsUnprepared c.args.oldest (live_of f r.lives) (live_of f c.prepare.new.self)) c.self.view_is
+    (each_by (λ (l n : Living). (n ≡ l) ⊎ IsUnprepared c.args.oldest l n) (λ l. inl refl) c.in-Some.prefix.family c.self.inside.lives c.prepare.new.self (inr c.in-Err.ensures.unprepared) c.prepare.ensures.other)
+
+pub returns-in-Ok-clause-idle : goal.returns-in-Ok-clause-idle
+returns-in-Ok-clause-idle c = λ f no.
+    let t = c.self.inside in
+    let e = elem_as c.args.elem.now in
+    let old : Routing = record { held = t.lower.held; begun = t.lower.planned; lives = t.lives } in
+    let at = sym c.in_ok-planned.ensures.changed ∙ ap (option_map (λ r. prefix_as r.0)) (sym c.route.ensures ∙ c.in-Some.is) in
+    let was = ap (λ (r : Routing). changed_at r.held.candidates e) (sym c.self.view_is) ∙ at in
+    let none = ap (λ (r : Routing). r.begun) c.self.view_is ∙ c.requires.rest in
+    let rest = subst (λ (o : Option Elem). AreLives t.lower.held o t.lives) none c.self.invariant in
+    ap is_pending (c.prepare.ensures.other f (no (prefix_as c.in-Some.prefix) was)) ∙ quiet_each t.lower.held t.lives rest f
+
+pub returns-in_default-clause-idle : goal.returns-in_default-clause-idle
+returns-in_default-clause-idle c = λ f no.
+    let t = c.self.inside in
+    let none = ap (λ (r : Routing). r.begun) c.self.view_is ∙ c.requires.rest in
+    let rest = subst (λ (o : Option Elem). AreLives t.lower.held o t.lives) none c.self.invariant in
+    quiet_each t.lower.held t.lives rest f

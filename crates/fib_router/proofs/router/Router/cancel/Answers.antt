@@ -1,13 +1,13 @@
-use Rattle.std.proofs.Common.{◌≡◌, Option, Some, None, sym, ap, ◌∙◌, subst}
+use Rattle.std.proofs.Common.{Option, None, sym, subst}
 use Rattle.table_model.specs.declared.family.Family.{Family}
 use Rattle.route_model.specs.Events.{Elem}
 use Rattle.poptrie_update.specs.declared.pending.Pending.{Pending}
 use Rattle.fib_engine.specs.Held.{EngineState}
-use Rattle.fib_router.specs.Lives.{AreLives}
+use Rattle.poptrie_update.specs.Cells.{KeepsAllReached}
+use Rattle.fib_router.specs.Lives.{AreLives, live_of}
 use Rattle.fib_router.specs.Router.{IsBegunIn, IsPendingIn, Routing, begun_elem}
-use Rattle.fib_router.specs.declared.lives.Lives as code_lives
-use Rattle.fib_router.proofs.Handing.{handed_back, none_made, nothing_made, some_made}
 use Rattle.fib_router.proofs.Readying.{cancelled_both}
+use Rattle.fib_router.proofs.Stepping.{each_by, reached_self}
 use Rattle.fib_router.proofs.router.Router.cancel.Goals as goal
 
 pub invariant_of-self : goal.invariant_of-self
@@ -18,3 +18,8 @@ invariant_of-self c =
     let quiet = subst (λ (o : Option (Family × Pending)). IsPendingIn o t.lives) c.in_default.is own.pending in
     let was = subst (λ (o : Option Elem). AreLives t.lower.held o t.lives) own.begun c.self.invariant in
     subst (λ (o : Option Elem). AreLives u.held o t.lives) (sym c.undo.ensures.rest) (subst (λ (h : EngineState). AreLives h None t.lives) (sym c.undo.ensures.held) (cancelled_both t.lower.held (begun_elem c.args.begun) t.lives quiet.0 quiet.1 was))
+
+pub returns-in-Ok-clause-cells : goal.returns-in-Ok-clause-cells
+returns-in-Ok-clause-cells c =
+    subst (λ (r : Routing). (f : Family) → KeepsAllReached 0 (live_of f r.lives) (live_of f c.cancel.new.self)) c.self.view_is
+    (each_by (KeepsAllReached 0) (reached_self 0) _ c.self.inside.lives c.cancel.new.self c.in-Ok.ensures.cells c.cancel.ensures.other)

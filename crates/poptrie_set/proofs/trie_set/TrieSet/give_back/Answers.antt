@@ -8,6 +8,8 @@ use Rattle.poptrie_set.proofs.Lived.{seen_as}
 use Rattle.poptrie_set.proofs.Fitting.{release_fits}
 use Rattle.poptrie_set.proofs.Quiet.{release_is, release_keeps, release_shows, release_past, since_all}
 use Rattle.poptrie_set.specs.Cells.{KeepsCells}
+use Rattle.poptrie_set.specs.Prepares.{GaveBack}
+use Rattle.poptrie_set.proofs.Given_once.{given_once}
 use Rattle.poptrie_set.proofs.Unwritten.{release_cells}
 use Rattle.poptrie_set.proofs.trie_set.TrieSet.give_back.Goals as goal
 use Rattle.poptrie_set.proofs.trie_set.TrieSet.give_back.Goals.{in-Nobody, in-Started}
@@ -72,3 +74,16 @@ returns-clause-cells c =
     (subst (λ (s : ℕ). KeepsCells s l m) (sym e)
     (subst (λ (x : Seen). KeepsCells c.match-oldest.since l x) (sym (release_is c.self.inside.family c.self.inside.direct_bits c.self.inside.words.items c.self.inside.nodes c.release.new.arena c.self.inside.leaves c.release-2.new.arena c.self.inside.node_blocks c.self.inside.leaf_blocks c.release.new.self c.release-2.new.self c.self.inside.pending c.self.inside.stores.items c.self.inside.made c.match-oldest.since c.release.ensures.released c.release-2.ensures.released q.nodes_taken q.nodes_replaced q.leaves_taken q.leaves_replaced))
     (release_cells l c.release.new.arena c.release-2.new.arena c.match-oldest.since q.nodes_taken q.leaves_taken c.release.ensures.gives c.release-2.ensures.gives)))
+
+pub returns-clause-just : goal.returns-clause-just
+returns-clause-just c = λ nodes leaves g.
+    let e : until c.args.oldest c.self.inside.node_blocks.time ≡ c.match-oldest.since = elim c.match-oldest.branch [
+      | in-Nobody w ↦ ap (λ (o : Oldest). until o c.self.inside.node_blocks.time) w.in-Nobody.is ∙ sym (w.since-is ∙ w.time-since.ensures)
+      | in-Started w ↦ ap (λ (o : Oldest). until o c.self.inside.node_blocks.time) w.in-Started.is ∙ sym w.since-is
+    ] in
+    let l = seen_as c.self.inside.family c.self.inside.direct_bits c.self.inside.words.items c.self.inside.nodes c.self.inside.leaves c.self.inside.node_blocks c.self.inside.leaf_blocks c.self.inside.pending c.self.inside.stores.items c.self.inside.made in
+    let given = subst (λ (s : ℕ). GaveBack s l nodes leaves) e (subst (λ (x : Seen). GaveBack (until c.args.oldest x.time) x nodes leaves) (sym c.self.view_is) g) in
+    let live = c.self.invariant.0 in (
+      given_once c.match-oldest.since c.self.inside.nodes c.release.new.arena nodes c.self.inside.node_blocks live.nodes_sized c.release.ensures.sized given.nodes_sized live.nodes_held c.release.ensures.gives given.nodes,
+      given_once c.match-oldest.since c.self.inside.leaves c.release-2.new.arena leaves c.self.inside.leaf_blocks live.leaves_sized c.release-2.ensures.sized given.leaves_sized live.leaves_held c.release-2.ensures.gives given.leaves,
+    )

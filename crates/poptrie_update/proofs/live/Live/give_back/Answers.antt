@@ -49,6 +49,7 @@ returns-in_default c =
       other = subst (λ (l : Living). state ≡ freed (until c.args.oldest l.selected.time) l.state) c.self.view_is (freed_same (until c.args.oldest s.time) state c.in_default.not-Retired);
       rest = subst IsAtRest c.self.view_is (at_rest c.self.inside.state c.self.inside.selected c.self.inside.other c.self.inside.number c.self.invariant.holds c.give_back.ensures.still);
       given = subst (λ (l : Living). GaveBack (until c.args.oldest l.selected.time) l.selected t.nodes.space t.leaves.space) c.self.view_is c.give_back.ensures.given;
+      just = λ nodes leaves g. c.give_back.ensures.just nodes leaves (subst (λ (l : Living). GaveBack (until c.args.oldest l.selected.time) l.selected nodes leaves) (sym c.self.view_is) g);
       back = subst (λ (l : Living). IsGivenBack (until c.args.oldest l.selected.time) l (pair_of t o state c.self.inside.number)) c.self.view_is (given_kept (until c.args.oldest s.time) s o t state c.self.inside.number (freed_same (until c.args.oldest s.time) state c.in_default.not-Retired) c.give_back.ensures.shape c.give_back.ensures.kept.0 c.give_back.ensures.kept.2 c.give_back.ensures.given c.give_back.ensures.nodes c.give_back.ensures.leaves);
       all = λ e. (c.give_back.ensures.all e, c.in_default.not-Retired);
       cells = subst (λ (l : Living). KeepsAllReached (until c.args.oldest l.selected.time) l (pair_of t o state c.self.inside.number)) c.self.view_is (reached_selected (until c.args.oldest s.time) s t o state c.self.inside.number c.give_back.ensures.cells);
@@ -98,3 +99,9 @@ returns-else-end-since-clause-back c =
     let m = pair_of c.give_back.new.self c.self.inside.other c.self.inside.state c.self.inside.number in
     subst (λ (l : Living). IsGivenBack (until c.args.oldest l.selected.time) l m) c.self.view_is
     (given_kept (until c.args.oldest s.time) s c.self.inside.other c.give_back.new.self c.self.inside.state c.self.inside.number (held_same (until c.args.oldest s.time) c.in-Retired.end c.self.inside.state c.in-Retired.is high) c.give_back.ensures.shape c.give_back.ensures.kept.0 c.give_back.ensures.kept.2 c.give_back.ensures.given c.give_back.ensures.nodes c.give_back.ensures.leaves)
+
+pub returns-then-end-since-clause-just : goal.returns-then-end-since-clause-just
+returns-then-end-since-clause-just c = λ nodes leaves g. c.give_back.ensures.just nodes leaves (subst (λ (l : Living). GaveBack (until c.args.oldest l.selected.time) l.selected nodes leaves) (sym c.self.view_is) g)
+
+pub returns-else-end-since-clause-just : goal.returns-else-end-since-clause-just
+returns-else-end-since-clause-just c = λ nodes leaves g. c.give_back.ensures.just nodes leaves (subst (λ (l : Living). GaveBack (until c.args.oldest l.selected.time) l.selected nodes leaves) (sym c.self.view_is) g)

@@ -3,7 +3,8 @@ use Rattle.table_model.specs.declared.family.Family.{Family}
 use Rattle.fib_addr.specs.Answers.{all_answers}
 use Rattle.poptrie_set.proofs.Ready.{if_err_map, ok_map, err_map}
 use Rattle.poptrie_update.proofs.Rebuilt.{if_ok_map}
-use Rattle.poptrie_update.proofs.Made.{is_made, is_refused}
+use Rattle.poptrie_update.proofs.Made.{is_made, is_refused, made_in}
+use Rattle.poptrie_update.proofs.Unpinned.{on_ok, unpinned}
 use Rattle.poptrie_update.proofs.Outside.{out_just}
 use Rattle.poptrie_set.specs.Fits.{until}
 use Rattle.poptrie_update.proofs.Unreached.{reached_both}
@@ -30,3 +31,11 @@ returns-clause-ready g c = ok_map c.make_ready.result c.make_ready.ensures.ready
 
 pub returns-clause-back : goal.returns-clause-back
 returns-clause-back g c = err_map c.make_ready.result c.make_ready.ensures.back (λ back. (c.give_back.new.self, c.give_back.ensures.back, back))
+
+pub returns-clause-unpinned : goal.returns-clause-unpinned
+returns-clause-unpinned g c =
+    on_ok c.make_ready.result _ c.make_ready.ensures.made
+    (λ p made. λ L M sh e agree wait.
+    unpinned c.args.oldest c.args.self.now.selected.time c.args.self.now c.make_ready.new.self L M c.give_back.new.self.selected.nodes.space c.give_back.new.self.selected.leaves.space c.give_back.ensures.given c.give_back.ensures.just p.stores
+    (made_in c.args.self.now c.give_back.new.self c.give_back.ensures.shape L M (until c.args.oldest c.args.self.now.selected.time) c.make_ready.new.self p.stores c.give_back.ensures.other (made L M (c.give_back.ensures.shows L L sh) (e ∙ ap (λ (f : Family). all_answers f M) (sym c.give_back.ensures.shape.0)) agree))
+    wait)
