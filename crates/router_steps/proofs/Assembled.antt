@@ -1,13 +1,12 @@
 -- A stepper put together, and what is begun in it.
-use Rattle.std.proofs.Common.{◌≡◌, ◌<◌, ◌≤◌, ℕ, suc, ◌+◌, List, [], ◌∷◌, Bool, true, false, cond, Option, Some, None, length, refl, sym, ap, ◌∙◌, subst, arith}
-use Rattle.table_model.specs.Address.{Prefix, same_family}
+use Rattle.std.proofs.Common.{◌≡◌, ◌<◌, ◌≤◌, ℕ, suc, ◌+◌, [], Bool, true, false, Option, Some, None, refl, sym, ap, ◌∙◌, subst, arith}
+use Rattle.table_model.specs.Address.{Prefix}
 use Rattle.table_model.specs.declared.family.Family.{Family}
 use Rattle.table_model.specs.declared.family.Family.TheVariants.{V4, V6}
 use Rattle.table_model.proofs.SamePrefix.{same_family_itself}
-use Rattle.poptrie_update.specs.Cursors.{Dues}
-use Rattle.poptrie_update.specs.Lives.{Living, is_pending, made_of, stores_left}
+use Rattle.poptrie_update.specs.Lives.{is_pending, made_of, stores_left}
 use Rattle.poptrie_update.specs.declared.pending.Pending.{Pending}
-use Rattle.fib_router.specs.Lives.{IsPendingOf, live_of}
+use Rattle.fib_router.specs.Lives.{live_of}
 use Rattle.fib_router.specs.Router.{IsBegunIn, IsPendingIn, Routing, stores_left_by, stores_left_of, stores_made_by, stores_made_in}
 use Rattle.fib_router.specs.declared.lives.Lives as code_lives
 use Rattle.fib_router.specs.declared.router.Begun as code_begun
@@ -16,14 +15,12 @@ use Rattle.step_script.specs.Script.{Step}
 use Rattle.step_script.specs.Rows.{StepRow}
 use Rattle.step_script.specs.Machine as machine
 use Rattle.step_script.specs.Machine.{World, State, changes_family, count_of, words}
-use Rattle.router_steps.specs.Calls.{IsElsewhere, ended_with}
 use Rattle.router_steps.specs.Engine.{IsEngineAt}
 use Rattle.router_steps.specs.Paused.{FamilyLive, IsAt, IsBegun, IsFamilyState, IsUnderWay}
 use Rattle.router_steps.specs.Runs.{HasSeen, IsBegunAs, IsBegunEvent, IsStepper, StepLeads, cursors_in, family_live}
 use Rattle.router_steps.specs.Upcoming.{to_come}
 use Rattle.router_steps.specs.declared.stepper.Stepper.{Stepper}
 use Rattle.router_steps.specs.declared.upcoming.Upcoming.{Upcoming}
-use Rattle.router_steps.proofs.Elsewhere.{elsewhere_at, over_at}
 use Rattle.router_steps.proofs.Steps.{no_more}
 
 -- ---- put together

@@ -1,5 +1,5 @@
 -- The next event is begun, or isn't.
-use Rattle.std.proofs.Common.{◌≡◌, ℕ, suc, ◌+◌, ◌*◌, ◌^◌, ◌<◌, ◌≤◌, List, [], ◌∷◌, ◌++◌, drop, get_or, map, length, zero, Bool, true, false, cond, Option, Some, None, refl, sym, ap, ◌∙◌, arith, subst, inl, inr}
+use Rattle.std.proofs.Common.{◌≡◌, ℕ, suc, ◌+◌, ◌*◌, ◌^◌, ◌<◌, ◌≤◌, List, [], ◌∷◌, ◌++◌, drop, get_or, map, length, zero, Bool, true, false, Option, Some, None, refl, sym, ap, ◌∙◌, arith, subst, inl, inr}
 use Rattle.std.specs.Prelude.{IfErr, IfOk, Result, Ok, Err, is_some, if◌then◌else◌}
 use Rattle.table_model.specs.Address.{Prefix, same_family}
 use Rattle.table_model.specs.declared.family.Family.{Family}
@@ -27,7 +27,7 @@ use Rattle.poptrie_set.specs.declared.trie_set.Oldest.{Oldest}
 use Rattle.poptrie_update.specs.Cursors.{IsFirst}
 use Rattle.poptrie_update.specs.Lives.{Living, Shows, is_pending}
 use Rattle.poptrie_update.specs.Prepares.{IsAtRest, IsPinned}
-use Rattle.route_tries.specs.Sizes.{Shortage, Sizes, shortage}
+use Rattle.route_tries.specs.Sizes.{Shortage, shortage}
 use Rattle.fib_engine.specs.Held.{EngineState, engine_routes}
 use Rattle.fib_engine.specs.Numbers.{brought_as, brought_by}
 use Rattle.fib_engine.specs.Stands.{routes_after}
@@ -40,7 +40,7 @@ use Rattle.fib_router.proofs.Room.{room_of}
 use Rattle.step_script.specs.RowViews.{step_row_as}
 use Rattle.step_script.specs.declared.row.Row.{Row}
 use Rattle.step_script.specs.Script.{prepares}
-use Rattle.step_script.specs.Rows.{StepRow, busy, nothing, pinned, prepared, printed_number}
+use Rattle.step_script.specs.Rows.{busy, nothing, pinned, prepared, printed_number}
 use Rattle.step_script.specs.Machine as machine
 use Rattle.step_script.specs.Machine.{World, State, HasRoom, HasRoomNext, IsHopsFull, IsTrieFull, MayStore, Prepares, changes_family, words}
 use Rattle.router_steps.specs.Calls.{begun_with}

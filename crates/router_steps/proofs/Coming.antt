@@ -1,7 +1,6 @@
 -- What is to come, event by event.
-use Rattle.std.proofs.Common.{◌≡◌, ◌<◌, ◌≤◌, ℕ, zero, suc, List, [], ◌∷◌, ◌++◌, drop, get_or, length, map, refl, sym, ap, ◌∙◌, subst, arith, append-nil}
-use Rattle.std.proofs.lemmas.List.{drop_all}
-use Rattle.route_model.specs.Events.{Elem, Event}
+use Rattle.std.proofs.Common.{◌≡◌, ◌<◌, ◌≤◌, ℕ, zero, suc, List, [], ◌∷◌, ◌++◌, drop, get_or, length, map, refl, sym, ap, ◌∙◌, arith}
+use Rattle.route_model.specs.Events.{Elem}
 use Rattle.route_model.specs.Choice.{Candidates, after_elems, elems_after, elems_of}
 use Rattle.fib_prefix.specs.Views.{elem_as, event_as}
 use Rattle.fib_prefix.specs.declared.event.Elem as code_elem

@@ -10,7 +10,7 @@ use Rattle.route_model.specs.Choice.{Candidates, after_elem, after_elems, elems_
 use Rattle.kept_model.specs.Feed.{hops_after}
 use Rattle.fib_addr.specs.Hops.{most_hops}
 use Rattle.fib_prefix.specs.Views.{event_as}
-use Rattle.poptrie_update.specs.Lives.{Living, is_pending, made_of, stores_left}
+use Rattle.poptrie_update.specs.Lives.{Living, is_pending, stores_left}
 use Rattle.fib_engine.specs.Held.{EngineState}
 use Rattle.fib_engine.specs.Numbers.{brought_as, brought_by}
 use Rattle.fib_engine.specs.Stands.{EngineStands, TakesElem}
@@ -28,9 +28,9 @@ use Rattle.router_steps.specs.Runs.{IsBegunAs, IsBegunEvent, IsStepper, StepLead
 use Rattle.router_steps.specs.Upcoming.{at_hand, to_come}
 use Rattle.router_steps.specs.declared.stepper.Stepper.{Stepper}
 use Rattle.router_steps.specs.declared.upcoming.Upcoming.{Upcoming}
-use Rattle.router_steps.proofs.Assembled.{begun_at, by_family, event_of, family_in, half_in, left_pending, made_pending, none_left, own_of, put_together, quiet_of, resting_of, stepped, with_begun}
+use Rattle.router_steps.proofs.Assembled.{begun_at, by_family, event_of, family_in, half_in, left_pending, made_pending, none_left, own_of, put_together, quiet_of, stepped, with_begun}
 use Rattle.router_steps.proofs.Elsewhere.{elsewhere_at, over_at}
-use Rattle.router_steps.proofs.Seen.{later_seen, least_seen, most_seen}
+use Rattle.router_steps.proofs.Seen.{later_seen, most_seen}
 use Rattle.router_steps.proofs.Steps.{cancelled_in, ended_in, more, stored_in}
 use Rattle.router_steps.proofs.Taken.{next_taken}
 

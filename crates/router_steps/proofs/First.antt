@@ -1,5 +1,5 @@
 -- Before the first step.
-use Rattle.std.proofs.Common.{◌≡◌, ℕ, zero, suc, ◌≤◌, List, [], Bool, false, Option, None, get_or, length, replicate, refl, sym, ap, ◌∙◌, arith, subst}
+use Rattle.std.proofs.Common.{◌≡◌, ℕ, zero, suc, ◌≤◌, List, [], false, Option, None, get_or, length, replicate, refl, sym, ap, ◌∙◌, subst}
 use Rattle.table_model.specs.declared.family.Family.{Family}
 use Rattle.table_model.specs.Entries.{Entries}
 use Rattle.poptrie_build.specs.Tries.{node_need, leaf_need}

@@ -1,6 +1,6 @@
 -- A lookup is opened, or goes on.
-use Rattle.std.proofs.Common.{◌≡◌, ◌<◌, ◌≤◌, ℕ, suc, List, ◌++◌, map, Bool, true, false, cond, Option, Some, None, Result, Ok, Err, nat_eq, refl, sym, ap, ◌∙◌, arith, subst}
-use Rattle.std.specs.Prelude.{◌&&◌, IfOk, OnErr, OnOk, option_map}
+use Rattle.std.proofs.Common.{◌≡◌, ◌<◌, ◌≤◌, ℕ, List, ◌++◌, map, Bool, false, cond, Option, Some, None, Result, Ok, Err, nat_eq, refl, sym, ap, ◌∙◌, arith, subst}
+use Rattle.std.specs.Prelude.{◌&&◌, IfOk, OnErr, OnOk}
 use Rattle.table_model.specs.Address.{Address, same_family}
 use Rattle.table_model.specs.declared.family.Family.{Family}
 use Rattle.table_model.specs.declared.family.Family.TheVariants.{V4, V6}
@@ -17,18 +17,17 @@ use Rattle.poptrie_update.specs.Lives.{Living, Shows}
 use Rattle.poptrie_update.specs.Reads.{published_entries}
 use Rattle.poptrie_update.specs.declared.cursors.Lookup as code_lookup
 use Rattle.poptrie_update.specs.declared.cursors.Stage.TheVariants as stage
-use Rattle.fib_engine.specs.Numbers.{brought_as, brought_by}
 use Rattle.fib_router.specs.Lives.{live_of}
-use Rattle.fib_router.specs.Router.{begun_elem, begun_hop}
+use Rattle.fib_router.specs.Router.{begun_elem}
 use Rattle.fib_router.specs.declared.router.Begun.{Begun}
-use Rattle.step_script.specs.Rows.{StepRow, answered, full, not_open, opened, printed_number, went_on}
+use Rattle.step_script.specs.Rows.{StepRow, printed_number}
 use Rattle.step_script.specs.Script.{goes, opens}
 use Rattle.step_script.specs.Machine as machine
 use Rattle.step_script.specs.Machine.{World, State, Lookup, Goes, Names, Opens, version_of, with_lookup}
 use Rattle.router_steps.specs.Calls.{GoesTo, open_row}
 use Rattle.router_steps.specs.Engine.{IsEngineAt}
 use Rattle.router_steps.specs.Hops.{brought_in, read_row, told_hop}
-use Rattle.router_steps.specs.Paused.{FamilyLive, IsAt}
+use Rattle.router_steps.specs.Paused.{IsAt}
 use Rattle.router_steps.specs.Runs.{HasSeen, IsBegunAs, IsStepper, StepLeads, cursors_in, family_live, seen_by}
 use Rattle.router_steps.specs.Upcoming.{to_come}
 use Rattle.router_steps.specs.declared.stepper.Stepper.{Stepper}

@@ -1,6 +1,6 @@
 -- The hops that answers name, by their numbers, as more hops get numbers.
 use Rattle.std.proofs.Common.{◌≡◌, ℕ, zero, suc, ◌+◌, ◌<◌, ◌≤◌, List, [], ◌∷◌, ◌++◌, Bool, true, false, cond, Option, Some, None, length, map, nat_eq, refl, sym, ap, ◌∙◌, subst, arith, inl, inr, length-append}
-use Rattle.std.specs.Prelude.{◌||◌, ◌⊎◌, fold, flat_map, is_some, option_map, slice_get, unwrap_or}
+use Rattle.std.specs.Prelude.{◌||◌, ◌⊎◌, fold, flat_map, is_some, option_map, slice_get}
 use Rattle.std.specs.Option.{option_or}
 use Rattle.std.specs.List.{AllByRecursion, list_any}
 use Rattle.std.proofs.lemmas.Bool.{cases_eq, eq-eqb, eqb-true, ne_eqb}

@@ -1,15 +1,13 @@
 -- The next event is made ready, or isn't.
-use Rattle.std.proofs.Common.{◌≡◌, ℕ, suc, ◌≤◌, Bool, true, false, cond, Option, Some, None, refl, sym, ap, ◌∙◌, arith, subst}
-use Rattle.table_model.specs.Address.{Prefix, same_family}
+use Rattle.std.proofs.Common.{◌≡◌, ℕ, suc, Bool, true, false, cond, Option, None, refl, sym, ap, ◌∙◌, arith, subst}
 use Rattle.table_model.specs.declared.family.Family.{Family}
 use Rattle.table_model.specs.Entries.{Entries}
-use Rattle.poptrie_set.specs.Lives.{Seen}
 use Rattle.poptrie_set.specs.declared.trie_set.Oldest.{Oldest}
 use Rattle.poptrie_update.specs.Lives.{Living, Shows, is_pending, made_of}
 use Rattle.poptrie_update.specs.Cursors.{Dues, FitsAll, IsFirst}
 use Rattle.poptrie_update.proofs.Opened.{since_fits}
-use Rattle.step_script.specs.Machine.{World, State, Begun, Stores, MayStore, changes_family}
-use Rattle.router_steps.specs.Paused.{FamilyLive, is_own, shown_after, stores_in, IsBegun, IsFamilyState}
+use Rattle.step_script.specs.Machine.{World, State, Begun, changes_family}
+use Rattle.router_steps.specs.Paused.{FamilyLive, shown_after, stores_in, IsBegun, IsFamilyState}
 use Rattle.router_steps.specs.Calls.{begun_with}
 use Rattle.fib_router.specs.Lives.{Readies}
 

@@ -1,7 +1,6 @@
 -- Before the first step.
-use Rattle.std.proofs.Common.{◌≡◌, ◌≤◌, ℕ, List, [], ◌∷◌, ◌++◌, map, Option, Some, None, replicate, refl, sym, ap, ◌∙◌, subst, append-nil, arith}
+use Rattle.std.proofs.Common.{◌≡◌, List, [], ◌∷◌, map, None, replicate, refl, sym, ap, ◌∙◌, subst, append-nil}
 use Rattle.std.specs.List.{AllByRecursion}
-use Rattle.std.specs.Map.{keys_of}
 use Rattle.table_model.specs.Address.{Address, IsPrefix, same_family}
 use Rattle.table_model.specs.declared.family.Family.{Family}
 use Rattle.table_model.specs.declared.family.Family.TheVariants.{V4, V6}
@@ -14,7 +13,6 @@ use Rattle.route_model.proofs.Said.{none_yet}
 use Rattle.kept_model.specs.Feed.{entries_of, full_at, hops_after}
 use Rattle.fib_prefix.specs.Views.{event_as}
 use Rattle.fib_prefix.specs.declared.event.Event as code_event
-use Rattle.orig_tree.specs.Views.{InPlace}
 use Rattle.poptrie_update.specs.Cursors.{Dues, FitsAll, OpenLookups}
 use Rattle.poptrie_update.specs.Lives.{Living, Shows}
 use Rattle.fib_engine.specs.Held.{EngineState, engine_routes}
@@ -30,8 +28,7 @@ use Rattle.router_steps.specs.Paused.{IsAt, IsWorld}
 use Rattle.router_steps.specs.Runs.{IsStepper}
 use Rattle.router_steps.specs.Stepping.{world_of}
 use Rattle.router_steps.specs.Upcoming.{to_come}
-use Rattle.router_steps.specs.World.{steps_world, world_hops}
-use Rattle.router_steps.specs.declared.stepper.Stepper.{Stepper}
+use Rattle.router_steps.specs.World.{world_hops}
 use Rattle.router_steps.specs.declared.upcoming.Upcoming.{Upcoming}
 use Rattle.router_steps.proofs.First.{first_at, trie_first}
 use Rattle.router_steps.proofs.WorldTurning.{are_turns, starts, starts_placed, turns_in, turns_proper}

@@ -9,7 +9,7 @@ use Rattle.table_model.specs.Address.{Address}
 use Rattle.table_model.specs.Entries.{Entries, match_in}
 use Rattle.route_model.specs.Events.{Elem}
 use Rattle.route_model.specs.Choice.{Candidates, IsElem, after_elem, after_elems}
-use Rattle.kept_model.specs.Feed.{AreNumbered, entries_of, full_at, hops_after}
+use Rattle.kept_model.specs.Feed.{entries_of, full_at, hops_after}
 use Rattle.kept_model.specs.Kept.{changed_at}
 use Rattle.kept_model.proofs.FeedSteps.{elems_more}
 use Rattle.kept_model.proofs.Numbers.{entries_stay, full_behind, hops_more, routes_numbered}
@@ -21,7 +21,7 @@ use Rattle.fib_engine.specs.Stands.{EngineStands, TakesElem, routes_after}
 use Rattle.step_script.specs.Machine.{World}
 use Rattle.router_steps.specs.Engine.{IsEngineAt}
 use Rattle.router_steps.specs.Hops.{told_hop}
-use Rattle.router_steps.specs.World.{front_of, taken_of, changed_next, held_after, steps_world, world_hops}
+use Rattle.router_steps.specs.World.{front_of, taken_of, changed_next, held_after, steps_world}
 use Rattle.router_steps.proofs.Numbered.{answer_at_most, hop_stays, le_or, more_hops, told_by, told_none}
 
 -- ---- lists

@@ -7,7 +7,7 @@ use Rattle.fib_addr.specs.declared.addr.Addr.{Addr}
 use Rattle.fib_addr.specs.Views.{addr_as}
 use Rattle.poptrie_set.specs.Lives.{Seen, Store}
 use Rattle.poptrie_set.specs.First.{slot_of}
-use Rattle.poptrie_update.specs.Lives.{Living, Shows, ShowsBy, KeepsBy, is_pending, is_selecting, stores_left, left_by, made_of, stores_made}
+use Rattle.poptrie_update.specs.Lives.{Living, Shows, ShowsBy, KeepsBy, is_pending, stores_left, left_by, made_of, stores_made}
 use Rattle.poptrie_update.specs.Reads.{covers_by, published_entries}
 use Rattle.poptrie_update.specs.declared.live.Other.{Other}
 use Rattle.poptrie_update.specs.declared.live.Other.TheVariants as other

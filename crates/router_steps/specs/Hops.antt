@@ -1,5 +1,5 @@
 -- The hop that is told of a number, and of which family an arena is that is too small.
-use Rattle.std.specs.Prelude.{◌≡◌, ℕ, zero, suc, List, cond, nat_eq, Option, Some, None, Result, Ok, Err}
+use Rattle.std.specs.Prelude.{ℕ, zero, suc, List, cond, nat_eq, Option, Some, None, Result, Ok, Err}
 use Rattle.std.specs.Option.{option_or}
 use Rattle.table_model.specs.Address.{Address}
 use Rattle.table_model.specs.declared.family.Family.{Family}

@@ -1,5 +1,5 @@
 -- What a run in steps is to make, and what comes of it.
-use Rattle.std.specs.Prelude.{◌≡◌, ℕ, List, [], suc, Result, Ok, Err}
+use Rattle.std.specs.Prelude.{◌≡◌, ℕ, List, []}
 use Rattle.route_model.specs.Events.{Elem, Event}
 use Rattle.route_model.specs.Choice.{after_elems, elems_after}
 use Rattle.route_tries.specs.Sizes.{Sizes}

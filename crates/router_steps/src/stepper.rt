@@ -385,14 +385,17 @@ impl<'a> Stepper<'a> {
     {
         let Stepper {
             mut router,
-            v4: _,
-            v6: _,
-            upcoming: _,
+            v4,
+            v6,
+            upcoming,
             ended: _,
             begun,
         } = self;
         if let Some(begun) = begun {
-            let _changes = router.finish(begun);
+            drop(router.finish(begun));
         }
+        drop(router);
+        drop((v4, v6));
+        drop(upcoming);
     }
 }

@@ -1,4 +1,4 @@
-use Rattle.std.proofs.Common.{◌≡◌, suc, ◌+◌, Some, None, Err, refl, sym, ap, ◌∙◌, subst, arith}
+use Rattle.std.proofs.Common.{Err, refl, sym, ap, ◌∙◌, subst, arith}
 use Rattle.table_model.specs.declared.family.Family.{Family}
 use Rattle.fib_prefix.specs.Views.{elem_as}
 use Rattle.poptrie_update.specs.Cursors.{IsFirst}
@@ -8,7 +8,7 @@ use Rattle.step_script.specs.Rows.{prepared}
 use Rattle.step_script.specs.Script.{prepares}
 use Rattle.router_steps.specs.Runs.{cursors_in}
 use Rattle.router_steps.proofs.Assembled.{as_begun, leads_as, resting_of}
-use Rattle.router_steps.proofs.Beginning.{Begins, Refuses, Tries, begun_now, few_cursor, few_of, full_as, pinned_told, refused_as, too_large, too_many}
+use Rattle.router_steps.proofs.Beginning.{Refuses, Tries, begun_now, few_cursor, few_of, full_as, pinned_told, refused_as, too_large, too_many}
 use Rattle.router_steps.proofs.stepper.Stepper.begin.Goals as goal
 
 pub begin-requires-clause-rest : goal.begin-requires-clause-rest

@@ -1,8 +1,8 @@
-use Rattle.std.proofs.Common.{Some, None, refl, sym, ◌∙◌, ap}
-use Rattle.step_script.specs.Rows.{cancelled, late, nothing}
+use Rattle.std.proofs.Common.{refl, sym, ◌∙◌}
+use Rattle.step_script.specs.Rows.{cancelled, late}
 use Rattle.step_script.specs.Script.{cancels}
 use Rattle.router_steps.proofs.Assembled.{as_begun, event_of, leads_as}
-use Rattle.router_steps.proofs.Events.{Forgets, cancel_none, cancelled_not, cancelled_now}
+use Rattle.router_steps.proofs.Events.{cancelled_not, cancelled_now}
 use Rattle.router_steps.proofs.stepper.Stepper.cancel.Goals as goal
 
 pub cancel-requires : goal.cancel-requires

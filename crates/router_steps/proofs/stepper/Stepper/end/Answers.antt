@@ -1,9 +1,9 @@
-use Rattle.std.proofs.Common.{Some, None, refl, sym, ◌∙◌, ap}
+use Rattle.std.proofs.Common.{refl, sym, ◌∙◌}
 use Rattle.fib_router.specs.Router.{begun_elem}
-use Rattle.step_script.specs.Rows.{ended, left, nothing}
+use Rattle.step_script.specs.Rows.{ended, left}
 use Rattle.step_script.specs.Script.{ends}
 use Rattle.router_steps.proofs.Assembled.{as_begun, as_counted, event_of, leads_as}
-use Rattle.router_steps.proofs.Events.{Ends, end_none, ended_not, ended_now}
+use Rattle.router_steps.proofs.Events.{ended_not, ended_now}
 use Rattle.router_steps.proofs.stepper.Stepper.end.Goals as goal
 
 pub end-requires : goal.end-requires

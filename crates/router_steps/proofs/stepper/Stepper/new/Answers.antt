@@ -1,5 +1,3 @@
-use Rattle.std.specs.Prelude.{map}
-use Rattle.fib_prefix.specs.Views.{event_as}
 use Rattle.router_steps.proofs.Starting.{first_stands}
 use Rattle.router_steps.proofs.stepper.Stepper.new.Goals as goal
 

@@ -1,5 +1,5 @@
-use Rattle.std.proofs.Common.{Some, None, refl, sym, ◌∙◌, ap}
-use Rattle.router_steps.proofs.Beginning.{asked, asked_stops, asked_takes, busy_now, none_of, nothing_left}
+use Rattle.std.proofs.Common.{sym, ◌∙◌}
+use Rattle.router_steps.proofs.Beginning.{asked, asked_stops, asked_takes, none_of}
 use Rattle.router_steps.proofs.stepper.Stepper.prepare.Goals as goal
 
 pub begin-requires-clause-quiet : goal.begin-requires-clause-quiet

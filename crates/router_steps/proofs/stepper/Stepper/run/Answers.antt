@@ -37,7 +37,7 @@ returns-in_err-put-clause-stops c =
 
 pub loop-step-preserved : goal.loop-step-preserved
 loop-step-preserved c = record {
-  going = going_on c.args.self.now c.loop-step.self c.step.new.self c.args.script.now c.loop-step.step-index c.loop-step.text c.put.new.text c.step-item.result c.in_ok-row.row c.loop-step-test.true c.step-item.is c.in_ok-put.ensures.rows c.in_ok-row.ensures.takes c.loop-step.invariant.going;
+  going = going_on c.args.self.now c.loop-step.self c.step.new.self c.args.script.now c.loop-step.step-index c.loop-step.text c.put.new.self c.step-item.result c.in_ok-row.row c.loop-step-test.true c.step-item.is c.in_ok-put.ensures.rows c.in_ok-row.ensures.takes c.loop-step.invariant.going;
   early = omega (arith, c.loop-step.invariant.early, c.step.ensures.ended);
   counted = omega (arith, c.loop-step.invariant.counted, c.in_ok-put.ensures.steps);
 }

@@ -1,4 +1,4 @@
-use Rattle.std.proofs.Common.{◌≡◌, Bool, true, false, Some, refl, sym, ◌∙◌, ap}
+use Rattle.std.proofs.Common.{sym, ◌∙◌}
 use Rattle.step_script.specs.Script.{stores}
 use Rattle.router_steps.proofs.Assembled.{as_begun, event_of, leads_as}
 use Rattle.router_steps.proofs.Events.{stored_by}

@@ -1,4 +1,4 @@
-use Rattle.std.proofs.Common.{◌≡◌, List, ◌+◌, suc, ap, ◌∙◌, map, drop, arith}
+use Rattle.std.proofs.Common.{◌≡◌, ◌+◌, suc, ap, ◌∙◌, map, drop, arith}
 use Rattle.fib_prefix.specs.Views.{elem_as}
 use Rattle.router_steps.proofs.Coming.{passed}
 use Rattle.router_steps.proofs.upcoming.Upcoming.pass.Goals as goal
