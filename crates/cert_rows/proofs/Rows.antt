@@ -12,7 +12,7 @@ use Rattle.table_model.specs.Address.{Prefix}
 use Rattle.cert_model.specs.Rows.{CertRow}
 use Rattle.cert_rows.specs.Follow.{row_prefix}
 use Rattle.cert_rows.specs.Near.{near_row}
-use Rattle.cert_rows.specs.Held.{EndAt, SaidBehind, first_prefix, row_and, rows_held, taken_row}
+use Rattle.cert_rows.specs.Held.{RowsEndAt, SaidBehind, first_prefix, row_and, rows_held, taken_row}
 use Rattle.cert_rows.specs.declared.near.Near.{Near}
 use Rattle.cert_rows.specs.declared.near.NearKind.TheVariants as kind
 use Rattle.cert_rows.proofs.Above.{row_fits}
@@ -20,21 +20,21 @@ use Rattle.cert_rows.proofs.Above.{row_fits}
 -- one row more was put behind these: the last has its prefix now, and it stands at the end
 abbrev PutBehind : List Near → Prefix → List CertRow → Near → List CertRow → CertRow → Type 0
 PutBehind near p whole s more row =
-    EndAt (row_prefix row) (near ++ s ∷ []) p (whole ++ more) × (rows_held (near ++ s ∷ []) p (whole ++ more) ≡ rows_held near p whole ++ row ∷ [])
+    RowsEndAt (row_prefix row) (near ++ s ∷ []) p (whole ++ more) × (rows_held (near ++ s ∷ []) p (whole ++ more) ≡ rows_held near p whole ++ row ∷ [])
 
 put_first : (p last : Prefix) (whole : List CertRow) (s : Near) (more : List CertRow) (row : CertRow) → taken_row (near_row s last) more ≡ Some (row, []) → whole ≡ [] → p ≡ last → PutBehind [] p whole s more row
 put_first p last whole s more row one none at =
     let is : taken_row (near_row s p) (whole ++ more) ≡ Some (row, []) = ap (λ xs. taken_row (near_row s p) (xs ++ more)) none ∙ (ap (λ x. taken_row (near_row s x) more) at ∙ one) in (
-      subst (SaidBehind (EndAt (row_prefix row) [])) (sym is) (refl, refl),
+      subst (SaidBehind (RowsEndAt (row_prefix row) [])) (sym is) (refl, refl),
       ap (row_and (rows_held [])) is,
     )
 
-pub put_behind : (last : Prefix) (s : Near) (more : List CertRow) (row : CertRow) → taken_row (near_row s last) more ≡ Some (row, []) → (near : List Near) (p : Prefix) (whole : List CertRow) → EndAt last near p whole → PutBehind near p whole s more row
+pub put_behind : (last : Prefix) (s : Near) (more : List CertRow) (row : CertRow) → taken_row (near_row s last) more ≡ Some (row, []) → (near : List Near) (p : Prefix) (whole : List CertRow) → RowsEndAt last near p whole → PutBehind near p whole s more row
 put_behind last s more row one [] p whole ends = put_first p last whole s more row one ends.0 ends.1
 put_behind last s more row one (n ∷ near) p whole ends = by_row (near_row n p) whole ends (put_behind last s more row one near)
   where
-    by_row : (o : Option CertRow) (whole : List CertRow) → SaidBehind (EndAt last near) (taken_row o whole) → ((q : Prefix) (rest : List CertRow) → EndAt last near q rest → PutBehind near q rest s more row)
-        → SaidBehind (EndAt (row_prefix row) (near ++ s ∷ [])) (taken_row o (whole ++ more)) × (row_and (rows_held (near ++ s ∷ [])) (taken_row o (whole ++ more)) ≡ row_and (rows_held near) (taken_row o whole) ++ row ∷ [])
+    by_row : (o : Option CertRow) (whole : List CertRow) → SaidBehind (RowsEndAt last near) (taken_row o whole) → ((q : Prefix) (rest : List CertRow) → RowsEndAt last near q rest → PutBehind near q rest s more row)
+        → SaidBehind (RowsEndAt (row_prefix row) (near ++ s ∷ [])) (taken_row o (whole ++ more)) × (row_and (rows_held (near ++ s ∷ [])) (taken_row o (whole ++ more)) ≡ row_and (rows_held near) (taken_row o whole) ++ row ∷ [])
     by_row (Some r) rest e ih = let put = ih (row_prefix r) rest e in (put.0, ap (λ rows. r ∷ rows) put.1)
     by_row None [] e ih = absurd e
     by_row None (w ∷ rest) e ih = let put = ih (row_prefix w) rest e in (put.0, ap (λ rows. w ∷ rows) put.1)
@@ -60,7 +60,7 @@ packed_more (x ∷ xs) ys = ap (λ rows. packed_as x ∷ rows) (packed_more xs y
 
 -- what is true of rows that are held, of which the last has this prefix
 abbrev pub AreHeld : List Near → List PackedRow → code.Prefix → Type 0
-AreHeld near whole last = EndAt (prefix_as last) near first_prefix (map packed_as whole) × AllByRecursion RowFits (rows_held near first_prefix (map packed_as whole))
+AreHeld near whole last = RowsEndAt (prefix_as last) near first_prefix (map packed_as whole) × AllByRecursion RowFits (rows_held near first_prefix (map packed_as whole))
 
 -- the row was put behind them
 abbrev pub Pushed : List Near → List PackedRow → List Near → List PackedRow → code.Prefix → Row → Type 0
@@ -72,14 +72,14 @@ pushed : (near : List Near) (whole : List PackedRow) (last last' : code.Prefix) 
 pushed near whole last last' row s more near' whole' held one at put rest =
     let behind = put_behind (prefix_as last) s (map packed_as more) (row_as row) one near first_prefix (map packed_as whole) held.0 in
     let all : map packed_as whole' ≡ map packed_as whole ++ map packed_as more = ap (map packed_as) rest ∙ packed_more whole more in
-    let ends : EndAt (row_prefix (row_as row)) near' first_prefix (map packed_as whole') =
-    subst (λ (ns : List Near). EndAt (row_prefix (row_as row)) ns first_prefix (map packed_as whole')) (sym put) (subst (EndAt (row_prefix (row_as row)) (near ++ s ∷ []) first_prefix) (sym all) behind.0)
+    let ends : RowsEndAt (row_prefix (row_as row)) near' first_prefix (map packed_as whole') =
+    subst (λ (ns : List Near). RowsEndAt (row_prefix (row_as row)) ns first_prefix (map packed_as whole')) (sym put) (subst (RowsEndAt (row_prefix (row_as row)) (near ++ s ∷ []) first_prefix) (sym all) behind.0)
     in
     let rows : rows_held near' first_prefix (map packed_as whole') ≡ rows_held near first_prefix (map packed_as whole) ++ row_as row ∷ [] =
     ap (λ (ns : List Near). rows_held ns first_prefix (map packed_as whole')) put ∙ (ap (rows_held (near ++ s ∷ []) first_prefix) all ∙ behind.1)
     in (
       (
-        subst (λ p. EndAt p near' first_prefix (map packed_as whole')) (sym at) ends,
+        subst (λ p. RowsEndAt p near' first_prefix (map packed_as whole')) (sym at) ends,
         subst (AllByRecursion RowFits) (sym rows) (all_more (rows_held near first_prefix (map packed_as whole)) (row_as row ∷ []) held.1 (row_fits row, tt)),
       ),
       rows,

@@ -33,9 +33,9 @@ SaidBehind P None = ⊥
 SaidBehind P (Some next) = P (row_prefix next.0) next.1
 
 -- the last of the rows that these are has this prefix, and all whole rows are among them
-abbrev pub EndAt : Prefix → List Near → Prefix → List CertRow → Type 0
-EndAt last [] p whole = (whole ≡ []) × (p ≡ last)
-EndAt last (near ∷ more) p whole = SaidBehind (EndAt last more) (taken_row (near_row near p) whole)
+abbrev pub RowsEndAt : Prefix → List Near → Prefix → List CertRow → Type 0
+RowsEndAt last [] p whole = (whole ≡ []) × (p ≡ last)
+RowsEndAt last (near ∷ more) p whole = SaidBehind (RowsEndAt last more) (taken_row (near_row near p) whole)
 
 -- a row was taken from the front, if there was one
 abbrev pub TakesRow : List CertRow → List CertRow → Option CertRow → Type 0

@@ -31,13 +31,13 @@ impl Model for CertRows {
     ghost use Rattle.cert_model.specs.Verdict.{RowFits};
     ghost use Rattle.fib_addr.specs.Views.{prefix_as};
     ghost use Rattle.cert_model.specs.PackedViews.{packed_as};
-    ghost use Rattle.cert_rows.specs.Held.{EndAt, first_prefix, rows_held};
+    ghost use Rattle.cert_rows.specs.Held.{RowsEndAt, first_prefix, rows_held};
 
     ghost Value = { List CertRow };
 
     ghost view = { λ r. rows_held r.near.items first_prefix (map packed_as r.whole.items) };
 
-    ghost invariant = { λ r. EndAt (prefix_as r.last) r.near.items first_prefix (map packed_as r.whole.items)
+    ghost invariant = { λ r. RowsEndAt (prefix_as r.last) r.near.items first_prefix (map packed_as r.whole.items)
         × AllByRecursion RowFits (rows_held r.near.items first_prefix (map packed_as r.whole.items)) };
 }
 
