@@ -15,9 +15,6 @@ use Rattle.fib_addr.specs.Views.{entry_as}
 use Rattle.cert_model.specs.declared.row.Row.{Row}
 use Rattle.cert_model.specs.declared.row.Row.TheVariants as row
 use Rattle.cert_model.specs.Views.{row_as}
-use Rattle.cert_model.specs.declared.packed.PackedRow.{PackedRow}
-use Rattle.cert_model.specs.PackedViews.{packed_as}
-use Rattle.cert_model.proofs.Fits.{packed_fits}
 use Rattle.cert_check.proofs.Deals.{family_next}
 use Rattle.cert_check.proofs.Holding.{prefix_short}
 
@@ -58,10 +55,6 @@ rows_fit [] = tt
 rows_fit (row.Leaf p h ∷ rows) = (prefix_short p, rows_fit rows)
 rows_fit (row.Join p k ∷ rows) = (prefix_short p, rows_fit rows)
 rows_fit (row.Bound f n ∷ rows) = (tt, rows_fit rows)
-
-pub packed_rows_fit : (rows : List PackedRow) → AllByRecursion RowFits (map packed_as rows)
-packed_rows_fit [] = tt
-packed_rows_fit (r ∷ rows) = (packed_fits r, packed_rows_fit rows)
 
 pub some_not_none : (x : No) → Some x ≡ None → ⊥
 some_not_none x e = cc

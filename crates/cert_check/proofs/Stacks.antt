@@ -1,5 +1,5 @@
 -- Rows read one by one.
-use Rattle.std.proofs.Common.{◌≡◌, ◌≢◌, ℕ, zero, suc, ◌+◌, ◌<◌, ◌≤◌, List, [], ◌∷◌, ◌++◌, Bool, true, false, Option, Some, None, length, map, drop, get_or, drop-cons, fold, nat_eq, refl, sym, ap, ◌∙◌, arith, subst, length-append}
+use Rattle.std.proofs.Common.{◌≡◌, ◌≢◌, ℕ, ◌+◌, ◌<◌, ◌≤◌, List, [], ◌∷◌, ◌++◌, Bool, true, false, Option, Some, None, length, fold, nat_eq, refl, sym, ap, ◌∙◌, arith, subst, length-append}
 use Rattle.std.specs.Prelude.{◌&&◌, ◌↔◌, IsSome, option_map, option_to_list}
 use Rattle.std.proofs.lemmas.Bool.{cond-true, cond-false, eq-eqb, ne_eqb, and_from, and_parts}
 use Rattle.table_model.specs.Width.{width}
@@ -19,8 +19,6 @@ use Rattle.cert_model.specs.Right.{Item as ModelItem}
 use Rattle.cert_model.specs.Verdict.{No, Shape, JoinWrong, are_halves, wrong_row}
 use Rattle.cert_model.proofs.Rules.{right_bound}
 use Rattle.cert_model.proofs.Reading.{all_get_is}
-use Rattle.cert_model.specs.declared.packed.PackedRow.{PackedRow}
-use Rattle.cert_model.specs.PackedViews.{packed_as}
 use Rattle.cert_check.specs.Views.{no_as}
 use Rattle.cert_check.specs.declared.refusal.No as code
 use Rattle.cert_check.specs.declared.rows.Item.{Item}
@@ -269,23 +267,11 @@ went_on R row n d d' st st' x e r = subst (λ (y : Option code.No). RowRead R ro
 pub stopped : (R : Entries) (row : CertRow) (n : ℕ) (d d' : Option Family) (st st' : List ModelItem) (x : Option code.No) (y : code.No) → x ≡ Some y → RowRead R row n d st d' st' (option_map no_as x) → (rows : List CertRow) → wrong_row R (row ∷ rows) (due_as d) st n ≡ Some (no_as y)
 stopped R row n d d' st st' x y e r rows = (subst (λ (z : Option code.No). RowRead R row n d st d' st' (option_map no_as z)) e r) rows
 
-pub rows_next : (rows : List PackedRow) (i : ℕ) (p z : PackedRow) (r : CertRow) → i < length rows → p ≡ get_or rows i z → r ≡ packed_as p → map packed_as (drop i rows) ≡ r ∷ map packed_as (drop (i + 1) rows)
-rows_next rows i p z r lt is said =
-    ap (map packed_as) (drop-cons rows i z lt)
-    ∙ (ap (λ (x : PackedRow). packed_as x ∷ map packed_as (drop (suc i) rows)) (sym is)
-    ∙ (ap (λ (x : CertRow). x ∷ map packed_as (drop (suc i) rows)) (sym said) ∙ ap (λ (j : ℕ). r ∷ map packed_as (drop j rows)) (let e : suc i ≡ i + 1 = omega arith in e)))
-
-all_dropped : (rows : List PackedRow) (i : ℕ) → length rows ≤ i → drop i rows ≡ []
-all_dropped [] zero le = refl
-all_dropped [] (suc i) le = refl
-all_dropped (r ∷ rows) zero le = absurd (omega arith)
-all_dropped (r ∷ rows) (suc i) le = all_dropped rows i (omega arith)
-
-pub rows_over : (R : Entries) (rows : List PackedRow) (i : ℕ) (d : Option Family) (st : List ModelItem) (n : ℕ) → length rows ≤ i → d ≡ None → wrong_row R (map packed_as (drop i rows)) (due_as d) st n ≡ None
+pub rows_over : (R : Entries) (d : Option Family) (st : List ModelItem) (n : ℕ) → d ≡ None → wrong_row R [] (due_as d) st n ≡ None
 unfolding wrong_row
-rows_over R rows i d st n le e = ap (λ x. wrong_row R (map packed_as (drop i rows)) (due_as x) st n) e ∙ ap (λ xs. wrong_row R (map packed_as xs) [] st n) (all_dropped rows i le)
+rows_over R d st n e = ap (λ x. wrong_row R [] (due_as x) st n) e
 
-pub rows_short : (R : Entries) (rows : List PackedRow) (i : ℕ) (d : Option Family) (f : Family) (st : List ModelItem) (n : ℕ) → length rows ≤ i → d ≡ Some f → wrong_row R (map packed_as (drop i rows)) (due_as d) st n ≡ Some (Shape n)
+pub rows_short : (R : Entries) (d : Option Family) (f : Family) (st : List ModelItem) (n : ℕ) → d ≡ Some f → wrong_row R [] (due_as d) st n ≡ Some (Shape n)
 unfolding wrong_row
-rows_short R rows i d V4 st n le e = ap (λ x. wrong_row R (map packed_as (drop i rows)) (due_as x) st n) e ∙ ap (λ xs. wrong_row R (map packed_as xs) (V4 ∷ V6 ∷ []) st n) (all_dropped rows i le)
-rows_short R rows i d V6 st n le e = ap (λ x. wrong_row R (map packed_as (drop i rows)) (due_as x) st n) e ∙ ap (λ xs. wrong_row R (map packed_as xs) (V6 ∷ []) st n) (all_dropped rows i le)
+rows_short R d V4 st n e = ap (λ x. wrong_row R [] (due_as x) st n) e
+rows_short R d V6 st n e = ap (λ x. wrong_row R [] (due_as x) st n) e

@@ -3,7 +3,7 @@
 //! A leaf is put on the stack. A join takes its halves from the stack and puts itself there. A bound takes the family's whole
 //! region. Each region stands there with its set of hops and its k, the entries that it costs under a hop of its set.
 
-ghost use Rattle.std.specs.Prelude.{◌≡◌, ◌+◌, ◌^◌, ◌<◌, ◌≤◌, ◌&&◌, IfOk, map, option_map, Some, None, [], ◌∷◌, false, true};
+ghost use Rattle.std.specs.Prelude.{◌≡◌, ◌+◌, ◌^◌, ◌<◌, ◌≤◌, ◌&&◌, IfOk, length, option_map, Some, None, [], ◌∷◌, false, true};
 ghost use Rattle.table_model.specs.Address.{same_prefix};
 ghost use Rattle.table_model.specs.Halves.{half_at};
 ghost use Rattle.table_model.specs.declared.family.Family.TheVariants.{V4, V6};
@@ -13,7 +13,6 @@ ghost use Rattle.cert_model.specs.Right.{bound_by};
 ghost use Rattle.cert_model.specs.Verdict.{wrong_row};
 ghost use Rattle.fib_addr.specs.Views.{prefix_as};
 ghost use Rattle.cert_model.specs.Views.{row_as};
-ghost use Rattle.cert_model.specs.PackedViews.{packed_as};
 ghost use Rattle.cert_check.specs.Marks.{AreMarks};
 ghost use Rattle.cert_check.specs.Runs.{TellsBoth};
 ghost use Rattle.cert_check.specs.Views.{no_as};
@@ -23,7 +22,8 @@ use crate::refusal::No;
 use crate::runs::holds;
 use crate::sets::{Hops, common_hops, one_if_none, or_all};
 use crate::table_runs::TableRuns;
-use cert_model::{PackedRow, Row};
+use cert_model::Row;
+use cert_rows::RowsLeft;
 use fib_addr::{Family, Hop, Prefix};
 use smallvec::SmallVec;
 use std::alloc::{AllocError, Global};
@@ -34,6 +34,13 @@ pub struct Item {
     prefix: Prefix,
     hops: Hops,
     k: u64,
+}
+
+/// Two regions from the top of the stack, which are put together.
+#[derive(Drop)]
+struct HalfItems {
+    low: Item,
+    high: Item,
 }
 
 /// How far the rows are read.
@@ -113,19 +120,19 @@ fn join_items(
     prefix: &Prefix,
     said: u64,
     row: u64,
-    low: Item,
-    high: Item,
+    halves: HalfItems,
     stack: &mut Vec<Item>,
     marks: &mut Vec<u64>,
 ) -> Result<Option<No>, AllocError>
     requires marks { AreMarks row marks.old.items }
     requires more { row + 1 < 2 ^ 64 }
-    requires fits { low.k + high.k + 1 < 2 ^ 64 }
+    requires fits { halves.low.k + halves.high.k + 1 < 2 ^ 64 }
     ensures marks { AreMarks (row + 1) marks.new.items }
-    ensures done { IfOk result (λ no. JoinDone (prefix_as prefix.now) said row (item_as low)
-        (item_as high) (stack_as stack.old.items) (stack_as stack.new.items)
-        (option_map no_as no)) }
+    ensures done { IfOk result (λ no. JoinDone (prefix_as prefix.now) said row
+        (item_as halves.low) (item_as halves.high) (stack_as stack.old.items)
+        (stack_as stack.new.items) (option_map no_as no)) }
 {
+    let HalfItems { low, high } = halves;
     let common = common_hops(alloc, &low.hops, &high.hops, row, marks)?;
     let due = low.k + high.k + one_if_none(&common);
     if said != due {
@@ -170,7 +177,15 @@ fn read_join(
             None => Ok(shape),
             Some(low) => {
                 if are_halves(prefix, &low.prefix, &high.prefix) {
-                    join_items(alloc, prefix, said, row, low, high, stack, marks)
+                    join_items(
+                        alloc,
+                        prefix,
+                        said,
+                        row,
+                        HalfItems { low, high },
+                        stack,
+                        marks,
+                    )
                 } else {
                     Ok(shape)
                 }
@@ -314,27 +329,27 @@ fn read_row(
 pub(crate) fn read_rows(
     alloc: Global,
     runs: &TableRuns,
-    rows: &[PackedRow],
+    mut rows: RowsLeft<'_>,
     reading: &mut Reading,
 ) -> Result<Option<No>, AllocError>
     requires due { reading.old.due ≡ Some V4 }
     requires empty { stack_as reading.old.stack.items ≡ [] }
     requires marks { AreMarks 1 reading.old.marks.items }
+    requires few { length rows + 1 < 2 ^ 64 }
     ensures read { IfOk result (λ no. (R : Entries) → TellsBoth R runs.now
-        → option_map no_as no ≡ wrong_row R (map packed_as rows.now) (V4 ∷ V6 ∷ []) [] 1) }
+        → option_map no_as no ≡ wrong_row R rows.entry (V4 ∷ V6 ∷ []) [] 1) }
     ensures told { IfOk result (λ no. no ≡ None → (R : Entries) → TellsBoth R runs.now
         → BoundsTold R None reading.new.v4 reading.new.v6) }
 {
-    for i in 0..rows.len() {
-        let row = rows[i].row();
-        if let Some(no) = read_row(alloc, runs, &row, i as u64 + 1, reading)? {
+    let mut number = 0;
+    while let Some(row) = rows.next() {
+        number += 1;
+        if let Some(no) = read_row(alloc, runs, &row, number, reading)? {
             return Ok(Some(no));
         }
     }
     match reading.due {
         None => Ok(None),
-        Some(_) => Ok(Some(No::Shape {
-            row: rows.len() as u64 + 1,
-        })),
+        Some(_) => Ok(Some(No::Shape { row: number + 1 })),
     }
 }

@@ -204,6 +204,8 @@ pub fn runs_of(alloc: Global, entries: &[Entry], family: Family) -> Result<Vec<R
 {
     let parts = parts_of(alloc, entries, family)?;
     let mut runs = Vec::new(alloc);
+    // There are no more runs than that, so the list isn't copied as it grows.
+    runs.reserve(parts.len().saturating_mul(2))?;
     sweep(alloc, parts, 0, 0, family.width(), &mut runs)?;
     Ok(runs)
 }

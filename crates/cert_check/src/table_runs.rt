@@ -1,10 +1,11 @@
 //! A table as runs, with which other tables are compared.
 
-ghost use Rattle.std.specs.Prelude.{◌≡◌, IfOk, map, option_map};
+ghost use Rattle.std.specs.Prelude.{◌≡◌, ◌^◌, IfOk, map, option_map};
+ghost use Rattle.table_model.specs.Width.{width};
 ghost use Rattle.table_model.specs.Entries.{Entries};
-ghost use Rattle.cert_model.specs.Verdict.{not_same};
+ghost use Rattle.cert_model.specs.Verdict.{not_same, not_same_in};
 ghost use Rattle.fib_addr.specs.Views.{entry_as};
-ghost use Rattle.cert_check.specs.Runs.{AreOfBoth, RunsTell, TellsBoth};
+ghost use Rattle.cert_check.specs.Runs.{AreOfBoth, AreRuns, Below, RunsTell, TellsBoth};
 ghost use Rattle.cert_check.specs.Views.{differ_as};
 
 use crate::alike::{Differ, differ_in};
@@ -38,7 +39,9 @@ impl TableRuns {
 
     /// The runs of a family.
     pub(crate) fn of(&self, family: Family) -> &[Run]
-        ensures { (R : Entries) → TellsBoth R self.now → RunsTell family R result.now }
+        ensures tells { (R : Entries) → TellsBoth R self.now → RunsTell family R result.now }
+        ensures runs { AreOfBoth self.now → AreRuns 0 result.now }
+        ensures below { AreOfBoth self.now → Below (2 ^ width family) result.now }
     {
         match family {
             Family::V4 => &self.v4,
@@ -62,11 +65,24 @@ impl TableRuns {
         ensures { IfOk result (λ d. (R : Entries) → TellsBoth R self.now
             → option_map differ_as d ≡ not_same R (map entry_as entries.now)) }
     {
-        let other = runs_of(alloc, entries, Family::V4)?;
-        if let Some(differ) = differ_in(&self.v4, &other, Family::V4) {
+        if let Some(differ) = self.first_differ_in(alloc, entries, Family::V4)? {
             return Ok(Some(differ));
         }
-        let other = runs_of(alloc, entries, Family::V6)?;
-        Ok(differ_in(&self.v6, &other, Family::V6))
+        self.first_differ_in(alloc, entries, Family::V6)
+    }
+
+    /// So of a family. The runs of the entries are let go.
+    fn first_differ_in(
+        &self,
+        alloc: Global,
+        entries: &[Entry],
+        family: Family,
+    ) -> Result<Option<Differ>, AllocError>
+        requires { AreOfBoth self.now }
+        ensures { IfOk result (λ d. (R : Entries) → TellsBoth R self.now
+            → option_map differ_as d ≡ not_same_in R (map entry_as entries.now) family) }
+    {
+        let other = runs_of(alloc, entries, family)?;
+        Ok(differ_in(self.of(family), &other, family))
     }
 }

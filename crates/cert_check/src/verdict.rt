@@ -1,6 +1,6 @@
 //! The verdict on a certificate.
 
-ghost use Rattle.std.specs.Prelude.{◌≡◌, ◌∷◌, [], IfOk, IfErr, OnOk, Some, length, map, option_map};
+ghost use Rattle.std.specs.Prelude.{◌≡◌, ◌+◌, ◌<◌, ◌^◌, ◌∷◌, [], IfOk, IfErr, OnOk, Some, length, map, option_map};
 ghost use Rattle.std.specs.Option.{option_or};
 ghost use Rattle.table_model.specs.declared.family.Family.TheVariants.{V4, V6};
 ghost use Rattle.table_model.specs.Entries.{Entries, of_family};
@@ -9,7 +9,6 @@ ghost use Rattle.cert_model.specs.Right.{IsCertificate};
 ghost use Rattle.cert_model.specs.Verdict.{Twice, twice, wrong_row, too_many_in, verdict};
 ghost use Rattle.cert_model.specs.Verdict.{not_same as model_not_same};
 ghost use Rattle.fib_addr.specs.Views.{entry_as};
-ghost use Rattle.cert_model.specs.PackedViews.{packed_as};
 ghost use Rattle.cert_check.specs.Views.{differ_as, no_as, IfNo};
 ghost use Rattle.cert_check.specs.Runs.{AreOfBoth, TellsBoth};
 ghost use Rattle.cert_check.specs.Stack.{bound_due};
@@ -20,7 +19,7 @@ use crate::repeats::first_twice;
 use crate::rows::{Reading, read_rows};
 use crate::sets::no_marks;
 use crate::table_runs::TableRuns;
-use cert_model::PackedRow;
+use cert_rows::{CertRows, RowsLeft};
 use fib_addr::{Entry, Family};
 use std::alloc::{AllocError, Global};
 
@@ -93,10 +92,11 @@ fn wrong_in(
     alloc: Global,
     runs: &TableRuns,
     table: &[Entry],
-    rows: &[PackedRow],
+    rows: RowsLeft<'_>,
 ) -> Result<Option<No>, AllocError>
+    requires few { length rows + 1 < 2 ^ 64 }
     ensures { IfOk result (λ no. (R : Entries) → TellsBoth R runs.now
-        → option_map no_as no ≡ option_or (wrong_row R (map packed_as rows.now) (V4 ∷ V6 ∷ []) [] 1)
+        → option_map no_as no ≡ option_or (wrong_row R rows.entry (V4 ∷ V6 ∷ []) [] 1)
         (option_or (too_many_in R (map entry_as table.now) V4)
         (too_many_in R (map entry_as table.now) V6))) }
 {
@@ -121,10 +121,11 @@ fn first_wrong(
     alloc: Global,
     routes: &[Entry],
     table: &[Entry],
-    rows: &[PackedRow],
+    rows: RowsLeft<'_>,
 ) -> Result<Option<No>, AllocError>
+    requires few { length rows + 1 < 2 ^ 64 }
     ensures { IfOk result (λ no. option_map no_as no ≡ verdict (map entry_as routes.now)
-        (map entry_as table.now) (map packed_as rows.now)) }
+        (map entry_as table.now) rows.entry) }
 {
     if let Some(no) = find_repeat(alloc, routes, table)? {
         return Ok(Some(no));
@@ -146,17 +147,17 @@ pub fn check(
     alloc: Global,
     routes: &[Entry],
     table: &[Entry],
-    rows: &[PackedRow],
+    rows: &CertRows,
 ) -> Result<(), CheckError>
     ensures right { OnOk result (IsCertificate (map entry_as routes.now) (map entry_as table.now)
-        (map packed_as rows.now)) }
+        rows.now) }
     ensures least { OnOk result (LeastInBoth (map entry_as routes.now) (map entry_as table.now)) }
     ensures wrong { IfErr result (λ e. IfNo e (λ x. IsCertificate (map entry_as routes.now)
-        (map entry_as table.now) (map packed_as rows.now) → ⊥)) }
+        (map entry_as table.now) rows.now → ⊥)) }
     ensures no { IfErr result (λ e. IfNo e (λ x. verdict (map entry_as routes.now)
-        (map entry_as table.now) (map packed_as rows.now) ≡ Some (no_as x))) }
+        (map entry_as table.now) rows.now ≡ Some (no_as x))) }
 {
-    match first_wrong(alloc, routes, table, rows)? {
+    match first_wrong(alloc, routes, table, rows.rows())? {
         None => Ok(()),
         Some(no) => Err(CheckError::No(no)),
     }

@@ -9,7 +9,6 @@ use Rattle.printed_text.specs.Reading.{AnnouncedTexts, VrpTexts}
 use Rattle.printed_text.specs.Texts.{BadLine}
 use Rattle.printed_text.specs.Used.{Used}
 use Rattle.printed_text.specs.Kinds.{KindEntries}
-use Rattle.cert_model.specs.PackedViews.{packed_as}
 use Rattle.printed_text.specs.declared.fields.AnnouncedTexts as code_announced_texts
 use Rattle.printed_text.specs.declared.fields.VrpTexts as code_vrp_texts
 use Rattle.printed_text.specs.declared.invalid.Announced as code_announced
@@ -68,7 +67,7 @@ printed_row_as (printed.Report c n) = report_row (count_as c) n
 
 -- what was read of a text
 abbrev pub printed_as : code_text.Printed → Used
-printed_as p = record { routes = map entry_as p.routes.items; least = map entry_as p.least.items; cert = map packed_as p.rows.items; hops = p.hops.list }
+printed_as p = record { routes = map entry_as p.routes.items; least = map entry_as p.least.items; cert = p.rows; hops = p.hops.list }
 
 abbrev pub bad_as : code_bad.BadRow → BadLine
 bad_as bad = record { line = bad.line; why = bad.why }

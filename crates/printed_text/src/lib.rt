@@ -21,7 +21,8 @@ mod printed_laws;
 mod printed_row;
 pub mod why;
 
-pub use cert_model::{PackedRow, Row};
+pub use cert_model::Row;
+pub use cert_rows::{CertRows, RowsLeft};
 pub use error::{BadRow, PrintedError};
 pub use invalid::{Announced, PrintedVrp};
 pub use kind::Kind;

@@ -1,8 +1,9 @@
 //! Whole printed texts.
 
-ghost use Rattle.std.specs.Prelude.{◌≡◌, ◌<◌, ◌≤◌, ◌+◌, ◌^◌, List, [], length, option_map, IfOk, OnOk};
+ghost use Rattle.std.specs.Prelude.{◌≡◌, ◌<◌, ◌≤◌, ◌+◌, ◌^◌, ◌++◌, List, [], ◌∷◌, length, option_map, IfErr, IfOk, OnOk};
 ghost use Rattle.fib_addr.specs.Hops.{most_hops};
 ghost use Rattle.fib_addr.specs.Views.{addr_as};
+ghost use Rattle.cert_model.specs.Views.{row_as};
 ghost use Rattle.printed_text.specs.Reading.{line_in};
 ghost use Rattle.printed_text.specs.Rows as model;
 ghost use Rattle.printed_text.specs.Texts.{line_texts};
@@ -15,7 +16,8 @@ use crate::error::{BadRow, PrintedError};
 use crate::printed_row::{PrintedRow, read_row};
 use crate::why;
 use bstr::ByteSlice;
-use cert_model::{PackedRow, Row};
+use cert_model::Row;
+use cert_rows::CertRows;
 use fib_addr::{Addr, Entry, Hop, HopError, HopTable};
 use std::alloc::Global;
 
@@ -28,7 +30,7 @@ pub struct Printed {
     /// The entries of the least table; a dropping one has `Hop::NONE`.
     pub least: Vec<Entry>,
     /// The rows of the certificate; a leaf without a hop has `Hop::NONE`.
-    pub rows: Vec<PackedRow>,
+    pub rows: CertRows,
     /// The hops.
     pub hops: HopTable,
 }
@@ -78,6 +80,17 @@ pub fn number_hop(hops: &mut HopTable, hop: Option<Addr>) -> Result<Hop, HopErro
     }
 }
 
+/// Keeps a row of the certificate, behind the others.
+fn keep_row(rows: &mut CertRows, row: &Row) -> Result<(), HopError>
+    ensures kept { OnOk result (rows.new ≡ rows.old ++ row_as row.now ∷ []) }
+    ensures none { IfErr result (λ e. e ≡ HopError.NoMemory) }
+{
+    match rows.push(row) {
+        Ok(()) => Ok(()),
+        Err(_) => Err(HopError::NoMemory),
+    }
+}
+
 impl Printed {
     /// Nothing yet.
     pub(crate) fn new(alloc: Global) -> Printed
@@ -86,7 +99,7 @@ impl Printed {
         Printed {
             routes: Vec::new(alloc),
             least: Vec::new(alloc),
-            rows: Vec::new(alloc),
+            rows: CertRows::new(alloc),
             hops: HopTable::new(alloc),
         }
     }
@@ -108,12 +121,13 @@ impl Printed {
             }
             PrintedRow::Leaf(prefix, hop) => {
                 let hop = number_hop(&mut self.hops, hop)?;
-                self.rows.push(PackedRow::of(&Row::Leaf(prefix, hop)))?;
+                keep_row(&mut self.rows, &Row::Leaf(prefix, hop))?;
             }
-            PrintedRow::Join(prefix, k) => self.rows.push(PackedRow::of(&Row::Join(prefix, k)))?,
-            PrintedRow::Bound(family, entries) => {
-                self.rows.push(PackedRow::of(&Row::Bound(family, entries)))?;
-            }
+            PrintedRow::Join(prefix, k) => keep_row(&mut self.rows, &Row::Join(prefix, k))?,
+            PrintedRow::Bound(family, entries) => keep_row(
+                &mut self.rows,
+                &Row::Bound(family, entries),
+            )?,
             _ => {}
         }
         Ok(())

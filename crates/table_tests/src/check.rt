@@ -1,7 +1,8 @@
 //! Certificates of four routes that tie, right ones and wrong ones.
 
 use cert_check::{CheckError, Differ, No, check, same};
-use cert_model::{PackedRow, Row};
+use cert_model::Row;
+use cert_rows::CertRows;
 use fib_addr::{Addr, Entry, Family, Hop, Prefix};
 use std::alloc::{AllocError, Global};
 use std::test::Fail;
@@ -79,14 +80,14 @@ fn rows_of(
     alloc: Global,
     count: usize,
     other: Option<(usize, Step)>,
-) -> Result<Vec<PackedRow>, AllocError> {
-    let mut rows = Vec::new(alloc);
+) -> Result<CertRows, AllocError> {
+    let mut rows = CertRows::new(alloc);
     for (place, step) in ROWS.iter().take(count).enumerate() {
         let step = match other {
             Some((at, other)) if at == place => other,
             _ => *step,
         };
-        rows.push(PackedRow::of(&row_of(step)))?;
+        rows.push(&row_of(step))?;
     }
     Ok(rows)
 }

@@ -1,7 +1,7 @@
 //! Texts and the first bad line of each, one text read whole, and the most hops.
 
 use fib_addr::{Addr, Entry, Family, Hop, MOST_TEXT, Prefix, addr_text};
-use printed_text::{BadRow, PackedRow, PrintedError, Row, read_printed};
+use printed_text::{BadRow, PrintedError, Row, read_printed};
 use std::test::Fail;
 
 /// Texts, and the first line of each that is no row, with its why.
@@ -149,14 +149,18 @@ report,events,3";
         },
     ];
     let rows = [
-        PackedRow::of(&Row::Leaf(low, Hop::NONE)),
-        PackedRow::of(&Row::Leaf(third, Hop(1))),
-        PackedRow::of(&Row::Join(Prefix::new(&Addr::v4(0), 0), 1)),
-        PackedRow::of(&Row::Bound(Family::V6, 2)),
+        Row::Leaf(low, Hop::NONE),
+        Row::Leaf(third, Hop(1)),
+        Row::Join(Prefix::new(&Addr::v4(0), 0), 1),
+        Row::Bound(Family::V6, 2),
     ];
     assert_eq!(rt; printed.routes.as_slice(), routes.as_slice());
     assert_eq!(rt; printed.least.as_slice(), least.as_slice());
-    assert_eq!(rt; printed.rows.as_slice(), rows.as_slice());
+    let mut left = printed.rows.rows();
+    for row in rows {
+        assert_eq!(rt; left.next(), Some(row));
+    }
+    assert_eq!(rt; left.next(), None);
     assert_eq!(rt; printed.hops.addr(Hop(1)), Some(Addr::v4(0xc000_0202)));
     assert_eq!(rt; printed.hops.addr(Hop(3)), None);
     Ok(())

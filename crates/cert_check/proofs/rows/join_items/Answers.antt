@@ -18,8 +18,8 @@ put_joined p low high hops k old new x put is set sum =
 
 pub returns : goal.returns
 returns c =
-    let low = item_as c.args.low in
-    let high = item_as c.args.high in
+    let low = item_as c.args.halves.low in
+    let high = item_as c.args.halves.high in
     let both : c.in_ok-common.common.items ≡ common low.hops high.hops =
     c.in_ok-common.ensures.common ∙ (ap (λ S. common S c.deref-2.result.now) c.deref.ensures ∙ ap (common low.hops) c.deref-2.ensures)
     in

@@ -4,5 +4,5 @@ use Rattle.fib_texts.proofs.check.wrong_in.Goals as goal
 
 pub returns-in-Ok : goal.returns-in-Ok
 returns-in-Ok c =
-    let right = rw (c.deref.ensures.value, c.deref-2.ensures.value, c.deref-3.ensures.value) at c.in-Ok.ensures.right in
+    let right = rw (c.deref.ensures.value, c.deref-2.ensures.value) at c.in-Ok.ensures.right in
     sym (verdict_from _ _ _ right)
