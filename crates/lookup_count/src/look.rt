@@ -16,7 +16,7 @@ pub trait Lookups {
     fn find<L: Ledger>(&self, addr: &Addr, steps: &mut Steps<L>) -> Found;
 }
 
-impl Lookups for Tries {
+impl<'a> Lookups for Tries<'a> {
     fn find<L: Ledger>(&self, addr: &Addr, steps: &mut Steps<L>) -> Found {
         self.lookup(addr, steps)
     }
