@@ -4,29 +4,11 @@ ghost use Rattle.std.specs.Prelude.{◌≡◌};
 
 use crate::key::Key;
 use fib_addr::Steps;
-use fib_engine::{Found, Tries};
-use fib_prefix::{Addr, Hop};
-use fib_router::Router;
+use fib_engine::{Engine, Found, Tries};
+use fib_prefix::Hop;
+use std::alloc::AllocError;
 use std::marker::Brand;
 use std::sync::ledger::{Blank, Ledger};
-
-/// Where addresses are looked up.
-pub trait Lookups {
-    /// The hop of an address, and how many nodes were visited for it.
-    fn find<L: Ledger>(&self, addr: &Addr, steps: &mut Steps<L>) -> Found;
-}
-
-impl<'a> Lookups for Tries<'a> {
-    fn find<L: Ledger>(&self, addr: &Addr, steps: &mut Steps<L>) -> Found {
-        self.lookup(addr, steps)
-    }
-}
-
-impl Lookups for Router {
-    fn find<L: Ledger>(&self, addr: &Addr, steps: &mut Steps<L>) -> Found {
-        self.lookup(addr, steps)
-    }
-}
 
 /// How often all addresses are looked up, in each way.
 #[derive(Clone, Copy, Debug, PartialEq, Eq)]
@@ -65,8 +47,8 @@ impl Told {
 
 /// Looks each address up by itself, once a round.
 #[inline(never)]
-fn look_apart<K: Key, T: Lookups, L: Ledger>(
-    tries: &T,
+fn look_apart<K: Key, L: Ledger>(
+    tries: &Tries,
     keys: &[K],
     rounds: u64,
     steps: &mut Steps<L>,
@@ -74,7 +56,7 @@ fn look_apart<K: Key, T: Lookups, L: Ledger>(
     let mut told = Told { visits: 0, hops: 0 };
     for _ in 0..rounds {
         for key in keys {
-            told.add(tries.find(&key.addr(), steps));
+            told.add(tries.lookup(&key.addr(), steps));
         }
     }
     told
@@ -82,8 +64,8 @@ fn look_apart<K: Key, T: Lookups, L: Ledger>(
 
 /// Looks each address up, changed by the answer before it, once a round.
 #[inline(never)]
-fn look_chained<K: Key, T: Lookups, L: Ledger>(
-    tries: &T,
+fn look_chained<K: Key, L: Ledger>(
+    tries: &Tries,
     keys: &[K],
     rounds: u64,
     steps: &mut Steps<L>,
@@ -92,7 +74,7 @@ fn look_chained<K: Key, T: Lookups, L: Ledger>(
     let mut last = Hop::NONE;
     for _ in 0..rounds {
         for key in keys {
-            let found = tries.find(&key.changed_by(last).addr(), steps);
+            let found = tries.lookup(&key.changed_by(last).addr(), steps);
             last = found.hop;
             told.add(found);
         }
@@ -100,9 +82,9 @@ fn look_chained<K: Key, T: Lookups, L: Ledger>(
     told
 }
 
-/// The same, with a count of the steps.
-fn look_through<K: Key, T: Lookups, L: Ledger>(
-    tries: &T,
+/// Looks addresses up in both ways.
+fn look_through<K: Key, L: Ledger>(
+    tries: &Tries,
     keys: &[K],
     rounds: &Rounds,
     blank: Blank,
@@ -116,7 +98,8 @@ fn look_through<K: Key, T: Lookups, L: Ledger>(
     Looked { apart, chained }
 }
 
-/// Looks addresses up in both ways.
-pub fn look_up<K: Key, T: Lookups>(tries: &T, keys: &[K], rounds: &Rounds) -> Looked {
-    look_through::<K, T, Brand>(tries, keys, rounds, Blank::new(1))
+/// Looks addresses up in the tries of an engine's routes, in both ways.
+pub fn look_up<K: Key>(engine: &Engine, keys: &[K], rounds: &Rounds) -> Result<Looked, AllocError> {
+    let tries = engine.tries()?;
+    Ok(look_through::<K, Brand>(&tries, keys, rounds, Blank::new(1)))
 }

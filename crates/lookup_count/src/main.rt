@@ -1,13 +1,10 @@
 //! Look-ups by the Poptries of a dump's routes: the look-up by itself, to be measured.
 //!
-//! `lookup_count FILE FAMILY COUNT APART CHAINED DIRECT [router]` loads a dump, builds the tries of its routes with DIRECT direct bits,
-//! draws COUNT addresses within its routes of IPv4 (4) or IPv6 (6), and looks each of them up APART times by itself and CHAINED times
-//! changed by the answer before it; with the word `router` in the live tries of a router. It prints how many places the tries need, and
-//! of each way how many nodes the look-ups visited and the sum of the numbers of their hops. What a round takes is the difference of two
-//! runs.
+//! `lookup_count FILE FAMILY COUNT APART CHAINED DIRECT` loads a dump, builds the tries of its routes with DIRECT direct bits, draws
+//! COUNT addresses within its routes of IPv4 (4) or IPv6 (6), and looks each of them up APART times by itself and CHAINED times
+//! changed by the answer before it. It prints how many places the tries need, and of each way how many nodes the look-ups visited
+//! and the sum of the numbers of their hops. What a round takes is the difference of two runs.
 #![tactic(auto)]
-
-ghost use Rattle.std.specs.Prelude.{◌≡◌, true};
 
 mod draw;
 mod key;
@@ -18,7 +15,6 @@ use draw::draw_keys;
 use fib_engine::{Engine, FamilyNeeds, Sizes};
 use fib_io::{FileInputs, Inputs};
 use fib_prefix::Family;
-use fib_router::Router;
 use key::Key;
 use load::load;
 use look::{Looked, Rounds, look_up};
@@ -34,7 +30,6 @@ struct Words {
     count: usize,
     rounds: Rounds,
     sizes: Sizes,
-    by_router: bool,
 }
 
 /// What is told of them.
@@ -51,7 +46,7 @@ type Rest = Skip<Args>;
 fn word(words: &mut Rest) -> anyhow::Result<String> {
     match words.next() {
         Some(word) => Ok(word),
-        None => anyhow::bail!("usage: lookup_count FILE 4|6 COUNT APART CHAINED DIRECT [router]"),
+        None => anyhow::bail!("usage: lookup_count FILE 4|6 COUNT APART CHAINED DIRECT"),
     }
 }
 
@@ -99,40 +94,33 @@ fn read_words(rt: &HostRuntime) -> anyhow::Result<Words> {
     let count = number(&mut words)?;
     let rounds = rounds(&mut words)?;
     let sizes = sizes(&mut words)?;
-    let by_router = words.next().is_some();
     Ok(Words {
         file,
         family,
         count: count as usize,
         rounds,
         sizes,
-        by_router,
     })
 }
 
 /// Draws addresses within an engine's routes and looks them up.
-fn look_up_drawn<K: Key>(alloc: Global, engine: Engine, words: &Words) -> anyhow::Result<Looked>
-    requires { engine.loaded ≡ true }
-{
+fn look_up_drawn<K: Key>(alloc: Global, engine: &Engine, words: &Words) -> anyhow::Result<Looked> {
     let routes = engine.routes()?;
     let keys = draw_keys::<K>(alloc, &routes, words.family, words.count)?;
-    if words.by_router {
-        let router = Router::new(alloc, engine)?;
-        return Ok(look_up(&router, &keys, &words.rounds));
-    }
-    let tries = engine.tries()?;
-    Ok(look_up(&tries, &keys, &words.rounds))
+    Ok(look_up(engine, &keys, &words.rounds)?)
 }
 
 /// Loads the dump and looks addresses up.
 fn measure<I: Inputs>(alloc: Global, inputs: &mut I, words: &Words) -> anyhow::Result<Figures> {
     let engine = load(alloc, inputs, &words.file, words.sizes)?;
-    let needs = engine.needs();
     let looked = match words.family {
-        Family::V4 => look_up_drawn::<u32>(alloc, engine, words)?,
-        Family::V6 => look_up_drawn::<u128>(alloc, engine, words)?,
+        Family::V4 => look_up_drawn::<u32>(alloc, &engine, words)?,
+        Family::V6 => look_up_drawn::<u128>(alloc, &engine, words)?,
     };
-    Ok(Figures { needs, looked })
+    Ok(Figures {
+        needs: engine.needs(),
+        looked,
+    })
 }
 
 fn main(rt: HostRuntime) -> anyhow::Result<()> {
