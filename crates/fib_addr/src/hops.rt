@@ -2,7 +2,8 @@
 //!
 //! Hops are numbered 1, 2, .. in the order in which they are first brought, and keep their number for good. They are kept
 //! in a hash set in that order: a hop's number is its place there from 1. Asking costs one look-up, and so does numbering a
-//! hop that is held; a new one costs two.
+//! hop that is held; a new one costs two. A dump names few hops, each of them for many routes, so a hop's number is first
+//! guessed by a few bits of its address: a guess is tested, and costs half of what the set does.
 
 ghost use Rattle.std.specs.Prelude.{◌≡◌, ◌↔◌, ◌+◌, ◌<◌, ◌≤◌, [], length, map, option_map, Some, None, IsOk, IsErr, IsSome, IfSome, IfOk, OnOk, OnErr, IsErrOf};
 ghost use Rattle.std.specs.List.{IsDistinct};
@@ -59,6 +60,9 @@ impl From<HopsFull> for HopError {
 #[derive(Drop)]
 pub struct HopTable {
     hops: IndexSet<Addr>,
+    /// A number for each way that a few bits of an address may be: that of the first hop of such bits, or `Hop::NONE`. It only
+    /// says where to look first.
+    guesses: [Hop; GUESSES],
 }
 
 impl Model for HopTable {
@@ -67,6 +71,27 @@ impl Model for HopTable {
     ghost view = { λ table. record { list = map addr_as table.hops.keys; spare = spare table.hops } };
 
     ghost invariant = { λ table. (length table.hops.keys ≤ most_hops) × IsDistinct same_address (map addr_as table.hops.keys) };
+}
+
+/// How many numbers are guessed.
+const GUESSES: usize = 256;
+
+/// The golden ratio's fraction in 128 bits: its products have the bits of a number mixed at their upper end.
+const GOLDEN: u128 = 0x9e37_79b9_7f4a_7c15_f39c_c060_5ced_c835;
+
+/// Which guess an address has.
+fn guess_of(addr: &Addr) -> usize
+    ensures { result < GUESSES }
+{
+    (addr.bits.wrapping_mul(GOLDEN) >> 120) as usize
+}
+
+/// Notes a hop's number as the guess for addresses like its own, unless an earlier hop is guessed there.
+fn note(guesses: &mut [Hop; GUESSES], addr: &Addr, hop: Hop) {
+    let guess = guess_of(addr);
+    if guesses[guess] == Hop::NONE {
+        guesses[guess] = hop;
+    }
 }
 
 /// The number of the hop at a place.
@@ -84,6 +109,7 @@ impl HopTable {
     {
         HopTable {
             hops: IndexSet::new(alloc),
+            guesses: [Hop::NONE; GUESSES],
         }
     }
 
@@ -124,7 +150,19 @@ impl HopTable {
         }
         let hop = self.fresh()?;
         self.hops.insert_full(*addr)?;
+        note(&mut self.guesses, addr, hop);
         Ok(hop)
+    }
+
+    /// The hop's number, if it is held and guessed right.
+    fn guessed(&self, addr: &Addr) -> Option<Hop>
+        ensures number { IfSome result (λ hop. number_of self.now.list (addr_as addr.now)
+            ≡ Some hop.0) }
+        ensures addr { IfSome result (λ hop. hop_at self.now.list hop.0 ≡ Some (addr_as addr.now)) }
+    {
+        let hop = self.guesses[guess_of(addr)];
+        let held = self.addr(hop)?;
+        if held == *addr { Some(hop) } else { None }
     }
 
     /// The number that `number` would give the hop, memory aside. It takes no memory.
@@ -159,6 +197,9 @@ impl HopTable {
             (addr_as addr.now) }
         ensures addr { IfSome result (λ hop. hop_at self.now.list hop.0 ≡ Some (addr_as addr.now)) }
     {
+        if let Some(hop) = self.guessed(addr) {
+            return Some(hop);
+        }
         let place = self.hops.get_index_of(addr)?;
         Some(hop_at_place(place))
     }
