@@ -69,10 +69,10 @@ queue_cancelled xs short n time e q =
     }
 
 -- the first k of the retired ones are gone
-first_gone : (xs : List Aside) (n k : ℕ) → k ≤ n → take (n - k) (drop k xs) ≡ drop k (take n xs)
+pub first_gone : (xs : List Aside) (n k : ℕ) → k ≤ n → take (n - k) (drop k xs) ≡ drop k (take n xs)
 first_gone xs n k l = let e : k + (n - k) ≡ n = omega arith in sym (drop-take k (n - k) xs) ∙ ap (λ (m : ℕ). drop k (take m xs)) e
 
-others_stay : (xs : List Aside) (n k : ℕ) → k ≤ n → drop (n - k) (drop k xs) ≡ drop n xs
+pub others_stay : (xs : List Aside) (n k : ℕ) → k ≤ n → drop (n - k) (drop k xs) ≡ drop n xs
 others_stay xs n k l = let e : k + (n - k) ≡ n = omega arith in drop-drop (n - k) k xs ∙ ap (λ (m : ℕ). drop m xs) e
 
 pub queue_released : (xs left : List Aside) (n k time : ℕ) → k ≤ n → left ≡ drop k xs → IsQueue xs n time → IsQueue left (n - k) time
@@ -130,7 +130,7 @@ held_cancelled space after h g a =
     let p = apart_less (is_out space.free) (is_out after.free) h.taken (blocks_of h.retired) g.still a in
     record { with_taken = p; with_replaced = p }
 
-blocks_append : (xs ys : List Retired) → blocks_of (xs ++ ys) ≡ blocks_of xs ++ blocks_of ys
+pub blocks_append : (xs ys : List Retired) → blocks_of (xs ++ ys) ≡ blocks_of xs ++ blocks_of ys
 blocks_append [] ys = refl
 blocks_append (x ∷ xs) ys = ap (λ (r : List Array). x.block ∷ r) (blocks_append xs ys)
 
@@ -171,7 +171,7 @@ cut_parts xs since k c =
     ∙ (ap (λ (x : List Retired). x ++ retired_of (drop k xs)) (sym c.gone) ∙ ap (λ (x : List Retired). early since (retired_of xs) ++ x) (sym c.left)))
 
 -- ---- one more block is taken, or set aside
-arrays_join : (xs ys : List Block) → arrays_of (xs ++ ys) ≡ arrays_of xs ++ arrays_of ys
+pub arrays_join : (xs ys : List Block) → arrays_of (xs ++ ys) ≡ arrays_of xs ++ arrays_of ys
 arrays_join [] ys = refl
 arrays_join (x ∷ xs) ys = ap (λ (r : List Array). (x.place, 2 ^ x.order) ∷ r) (arrays_join xs ys)
 

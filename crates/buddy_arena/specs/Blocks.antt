@@ -1,5 +1,5 @@
 -- The blocks of an arena that an update took and that it replaces, and those that are retired, each as an array.
-use Rattle.std.specs.Prelude.{◌≡◌, ℕ, suc, ◌+◌, ◌^◌, ◌≤◌, List, [], ◌∷◌, ◌++◌, Bool, true, false, cond, length, nat_le, take, drop}
+use Rattle.std.specs.Prelude.{◌≡◌, ℕ, suc, ◌+◌, ◌^◌, ◌<◌, ◌≤◌, List, [], ◌∷◌, ◌++◌, Bool, true, false, cond, length, nat_le, take, drop}
 use Rattle.std.specs.List.{AllByRecursion}
 use Rattle.buddy_arena.specs.Space.{Space}
 use Rattle.buddy_arena.specs.declared.arena.Block.{Block}
@@ -78,6 +78,10 @@ pub record GivesBack {T : Type 0} (gone : List Array) (old new : Space T) : Type
   pub still : (i : ℕ) → is_out old.free i ≡ true → among gone i ≡ false → is_out new.free i ≡ true
   pub left : count_free new ≡ count_free old + places_of gone
 
+-- the number of their places, as far as 64 bits can hold it
+abbrev pub Counts : ℕ → List Array → Type 0
+Counts n xs = places_of xs < 18446744073709551616 → n ≡ places_of xs
+
 -- ---- as they are kept
 abbrev pub arrays_of : List Block → List Array
 arrays_of [] = []
@@ -110,3 +114,9 @@ pub record IsQueue (aside : List Aside) (n time : ℕ) : Type 0 where
   pub past : EndBy time (take n aside)
   pub pending : EndAt (suc time) (drop n aside)
   pub in_order : EndsAscend aside
+
+-- the places are counted of the blocks that were taken, of the first n that are set aside, which are the retired ones, and of the others
+pub record AreCounted (some : List Block) (aside : List Aside) (n t p r : ℕ) : Type 0 where
+  pub taken : Counts t (arrays_of some)
+  pub replaced : Counts p (blocks_of (retired_of (drop n aside)))
+  pub retired : Counts r (blocks_of (retired_of (take n aside)))

@@ -1,5 +1,7 @@
 //! What a pending update took of an arena and what it replaces there, and what is retired.
 
+ghost use Rattle.std.specs.Prelude.{◌≡◌, ◌^◌, ◌<◌};
+
 use crate::giving::{give_all, release};
 use crate::places::order_for;
 use crate::{Arena, Block, Full};
@@ -24,6 +26,13 @@ pub enum Refused {
     Full(Full),
 }
 
+/// How many places a block of this order has, as far as 64 bits count them.
+fn places(order: u8) -> u64
+    ensures { order < 64 → result ≡ 2 ^ order }
+{
+    1 << order.min(63)
+}
+
 /// The blocks of one arena that belong to no present version, or won't: what the pending update took, what it replaces, and what is
 /// retired at which end. Time is the number of ends so far.
 ///
@@ -36,11 +45,17 @@ pub struct Blocks {
     /// How many of these are retired.
     retired: usize,
     time: u64,
+    /// The places of the blocks that were taken, as far as 64 bits count them.
+    taken_places: u64,
+    /// Those of the replaced ones.
+    replaced_places: u64,
+    /// Those of the retired ones.
+    retired_places: u64,
 }
 
 impl Model for Blocks {
     ghost use Rattle.std.specs.Prelude.{take, drop};
-    ghost use Rattle.buddy_arena.specs.Blocks.{Held, arrays_of, blocks_of, retired_of, IsQueue};
+    ghost use Rattle.buddy_arena.specs.Blocks.{Held, arrays_of, blocks_of, retired_of, IsQueue, AreCounted};
 
     ghost Value = { Held };
 
@@ -51,7 +66,9 @@ impl Model for Blocks {
       time = b.time;
     } };
 
-    ghost invariant = { λ b. IsQueue b.aside.items b.retired b.time };
+    ghost invariant = { λ b. IsQueue b.aside.items b.retired b.time
+        × AreCounted b.taken.items b.aside.items b.retired b.taken_places b.replaced_places
+        b.retired_places };
 }
 
 impl Blocks {
@@ -61,7 +78,7 @@ impl Blocks {
     ghost use Rattle.buddy_arena.specs.Refusals.{IsRefusal};
     ghost use Rattle.buddy_arena.specs.Places.{is_out, count_free};
     ghost use Rattle.buddy_arena.specs.Arrays.{AreApart};
-    ghost use Rattle.buddy_arena.specs.Blocks.{AreHeldIn, GivesBack, with_taken, with_replaced, nothing_held, ended, cancelled, released, early, late, blocks_of, AreRetiredBy};
+    ghost use Rattle.buddy_arena.specs.Blocks.{Counts, AreHeldIn, GivesBack, with_taken, with_replaced, nothing_held, ended, cancelled, released, early, late, blocks_of, AreRetiredBy};
 
     /// No blocks, at time 0.
     pub fn new(alloc: Global) -> Blocks
@@ -72,6 +89,9 @@ impl Blocks {
             aside: VecDeque::new(alloc),
             retired: 0,
             time: 0,
+            taken_places: 0,
+            replaced_places: 0,
+            retired_places: 0,
         }
     }
 
@@ -89,6 +109,14 @@ impl Blocks {
         let _time = self.time;
     }
 
+    /// How many places the blocks have that the pending update took and the retired ones: what is out beside them is the present
+    /// version's. It is kept, and not counted here.
+    pub fn places_beside(&self) -> u64
+        ensures { Counts result (self.now.taken ++ blocks_of self.now.retired) }
+    {
+        self.taken_places.saturating_add(self.retired_places)
+    }
+
     /// The pending update is over: what it took stays out as the present version's, and what it replaced is retired.
     pub fn end(&mut self)
         requires { self.old.time < 18446744073709551615 }
@@ -97,6 +125,9 @@ impl Blocks {
         self.taken.clear();
         self.retired = self.aside.len();
         self.time += 1;
+        self.retired_places = self.retired_places.saturating_add(self.replaced_places);
+        self.taken_places = 0;
+        self.replaced_places = 0;
     }
 
     /// The pending update is forgotten: what it took is given back, and what it was to replace stays.
@@ -112,6 +143,8 @@ impl Blocks {
         give_all(arena, &self.taken);
         self.taken.clear();
         self.aside.truncate(self.retired);
+        self.taken_places = 0;
+        self.replaced_places = 0;
     }
 
     /// What was retired at an end no later than this time is given back, in the time of what that is.
@@ -126,8 +159,12 @@ impl Blocks {
             ≡ early since self.old.retired ++ late since self.old.retired }
         ensures all { self.old.time ≤ since → self.new.retired ≡ [] }
     {
+        let free = arena.free_total();
         let given = release(arena, &mut self.aside, self.retired, since);
         self.retired -= given;
+        self.retired_places = self
+            .retired_places
+            .saturating_sub(arena.free_total() - free);
     }
 
     /// Takes a block of the arena for so many places, for the pending update.
@@ -159,6 +196,7 @@ impl Blocks {
         match arena.take(order_for(count)) {
             Ok(block) => {
                 self.taken.push_reserved(block);
+                self.taken_places = self.taken_places.saturating_add(places(block.order));
                 Ok(block)
             }
             Err(full) => Err(Refused::Full(full)),
@@ -181,6 +219,7 @@ impl Blocks {
             end: self.time + 1,
             block,
         });
+        self.replaced_places = self.replaced_places.saturating_add(places(block.order));
         Ok(())
     }
 
@@ -191,5 +230,8 @@ impl Blocks {
         self.taken.clear();
         self.aside.clear();
         self.retired = 0;
+        self.taken_places = 0;
+        self.replaced_places = 0;
+        self.retired_places = 0;
     }
 }

@@ -11,11 +11,11 @@ ghost use Rattle.path_copying.specs.Changes.{Gains, Replaces};
 ghost use Rattle.path_copying.specs.Written.{Matches};
 ghost use Rattle.path_copying.specs.Asks.{MeetsAll, MeetsNotAll, MeetsChanged, MeetsNotChanged};
 
+use crate::arenas::Arenas;
 use crate::aside::{open_node, set_aside_all};
 use crate::blocks::{Refusal, take_block};
 use crate::children::write_slots;
 use crate::comparing::is_same;
-use buddy_arena::{Arena, Blocks};
 use fib_addr::Region;
 use poptrie_build::{Node, ask, descend, make_vectors};
 
@@ -30,54 +30,50 @@ pub fn copy_node<R: Region>(
     region: &R,
     bits: u8,
     was: Option<Node>,
-    nodes: &mut Arena<Node>,
-    node_blocks: &mut Blocks,
-    leaves: &mut Arena<u16>,
-    leaf_blocks: &mut Blocks,
+    arenas: &mut Arenas,
 ) -> Result<Node, Refusal>
     requires mixed { one_answer (R.bits region.now) (R.answers region.now) ≡ None }
     requires bits { bits ≡ R.bits region.now }
-    requires nodes_sized { IsSized nodes.old }
-    requires leaves_sized { IsSized leaves.old }
-    requires nodes_time { node_blocks.old.time < 18446744073709551615 }
-    requires leaves_time { leaf_blocks.old.time < 18446744073709551615 }
-    requires was { IsKid nodes.old leaves.old was bits }
-    ensures nodes { Gains blank nodes.old node_blocks.old nodes.new node_blocks.new }
-    ensures leaves { Gains 0 leaves.old leaf_blocks.old leaves.new leaf_blocks.new }
-    ensures replaces { IfOk result (λ node. Replaces nodes.old node_blocks.old leaves.old
-        leaf_blocks.old was nodes.new node_blocks.new leaves.new leaf_blocks.new (Some node)
-        (R.bits region.now) (R.answers region.now)) }
-    ensures met { IfOk result (λ node. MeetsChanged nodes.old leaves.old was nodes.new leaves.new
-        (R.bits region.now) (R.answers region.now)) }
-    ensures refused { IfErr result (λ e. MeetsNotChanged nodes.old leaves.old was
+    requires nodes_sized { IsSized arenas.old.nodes }
+    requires leaves_sized { IsSized arenas.old.leaves }
+    requires nodes_time { arenas.old.node_blocks.time < 18446744073709551615 }
+    requires leaves_time { arenas.old.leaf_blocks.time < 18446744073709551615 }
+    requires was { IsKid arenas.old.nodes arenas.old.leaves was bits }
+    ensures nodes { Gains blank arenas.old.nodes arenas.old.node_blocks arenas.new.nodes
+        arenas.new.node_blocks }
+    ensures leaves { Gains 0 arenas.old.leaves arenas.old.leaf_blocks arenas.new.leaves
+        arenas.new.leaf_blocks }
+    ensures replaces { IfOk result (λ node. Replaces arenas.old.nodes arenas.old.node_blocks
+        arenas.old.leaves arenas.old.leaf_blocks was arenas.new.nodes arenas.new.node_blocks
+        arenas.new.leaves arenas.new.leaf_blocks (Some node) (R.bits region.now) (R.answers
+        region.now)) }
+    ensures met { IfOk result (λ node. MeetsChanged arenas.old.nodes arenas.old.leaves was
+        arenas.new.nodes arenas.new.leaves (R.bits region.now) (R.answers region.now)) }
+    ensures refused { IfErr result (λ e. MeetsNotChanged arenas.old.nodes arenas.old.leaves was
         (R.bits region.now) (R.answers region.now) e) }
 {
     let mut kinds = [None; 64];
     ask(region, 6, &mut kinds);
     let made = make_vectors(&kinds);
     let mut kids = [None; 64];
-    open_node(was, nodes, node_blocks, leaf_blocks, &mut kids)?;
-    let base1 = match take_block(nodes, node_blocks, made.nodes) {
+    open_node(
+        was,
+        &arenas.nodes,
+        &mut arenas.node_blocks,
+        &mut arenas.leaf_blocks,
+        &mut kids,
+    )?;
+    let base1 = match take_block(&mut arenas.nodes, &mut arenas.node_blocks, made.nodes) {
         Ok(base) => base,
         Err(refused) => return Err(Refusal::of_nodes(refused)),
     };
-    let base0 = match take_block(leaves, leaf_blocks, made.leaves) {
+    let base0 = match take_block(&mut arenas.leaves, &mut arenas.leaf_blocks, made.leaves) {
         Ok(base) => base,
         Err(refused) => return Err(Refusal::of_leaves(refused)),
     };
     for slot in 0..64u8 {
         let at = usize::from(slot);
-        kids[at] = copy_slot(
-            region,
-            bits,
-            slot,
-            kinds[at],
-            kids[at],
-            nodes,
-            node_blocks,
-            leaves,
-            leaf_blocks,
-        )?;
+        kids[at] = copy_slot(region, bits, slot, kinds[at], kids[at], arenas)?;
     }
     let node = Node {
         vector: made.vector,
@@ -85,7 +81,7 @@ pub fn copy_node<R: Region>(
         base0,
         base1,
     };
-    write_slots(&node, &kinds, &kids, nodes, leaves);
+    write_slots(&node, &kinds, &kids, &mut arenas.nodes, &mut arenas.leaves);
     Ok(node)
 }
 
@@ -102,54 +98,52 @@ fn copy_slot<R: Region>(
     slot: u8,
     kind: Option<u16>,
     was: Option<Node>,
-    nodes: &mut Arena<Node>,
-    node_blocks: &mut Blocks,
-    leaves: &mut Arena<u16>,
-    leaf_blocks: &mut Blocks,
+    arenas: &mut Arenas,
 ) -> Result<Option<Node>, Refusal>
     requires slot { slot < 64 }
     requires kind { kind ≡ slots (R.bits region.now) (R.answers region.now) slot }
     requires bits { bits ≡ R.bits region.now }
-    requires nodes_sized { IsSized nodes.old }
-    requires leaves_sized { IsSized leaves.old }
-    requires nodes_time { node_blocks.old.time < 18446744073709551615 }
-    requires leaves_time { leaf_blocks.old.time < 18446744073709551615 }
-    requires was { IsKid nodes.old leaves.old was (R.bits region.now - 6) }
-    ensures nodes { Gains blank nodes.old node_blocks.old nodes.new node_blocks.new }
-    ensures leaves { Gains 0 leaves.old leaf_blocks.old leaves.new leaf_blocks.new }
+    requires nodes_sized { IsSized arenas.old.nodes }
+    requires leaves_sized { IsSized arenas.old.leaves }
+    requires nodes_time { arenas.old.node_blocks.time < 18446744073709551615 }
+    requires leaves_time { arenas.old.leaf_blocks.time < 18446744073709551615 }
+    requires was { IsKid arenas.old.nodes arenas.old.leaves was (R.bits region.now - 6) }
+    ensures nodes { Gains blank arenas.old.nodes arenas.old.node_blocks arenas.new.nodes
+        arenas.new.node_blocks }
+    ensures leaves { Gains 0 arenas.old.leaves arenas.old.leaf_blocks arenas.new.leaves
+        arenas.new.leaf_blocks }
     ensures kind { IfOk result (λ kid. Matches kind kid) }
-    ensures replaces { IfOk result (λ kid. Replaces nodes.old node_blocks.old leaves.old
-        leaf_blocks.old was nodes.new node_blocks.new leaves.new leaf_blocks.new kid
-        (R.bits region.now - 6) (strides.slot (R.bits region.now) (R.answers region.now) slot)) }
-    ensures met { IfOk result (λ kid. MeetsAll nodes.old leaves.old was nodes.new leaves.new
-        (R.bits region.now - 6) (strides.slot (R.bits region.now) (R.answers region.now) slot)) }
-    ensures refused { IfErr result (λ e. MeetsNotAll nodes.old leaves.old was
-        (R.bits region.now - 6) (strides.slot (R.bits region.now) (R.answers region.now) slot)
-        e) }
+    ensures replaces { IfOk result (λ kid. Replaces arenas.old.nodes arenas.old.node_blocks
+        arenas.old.leaves arenas.old.leaf_blocks was arenas.new.nodes arenas.new.node_blocks
+        arenas.new.leaves arenas.new.leaf_blocks kid (R.bits region.now - 6) (strides.slot (R.bits
+        region.now) (R.answers region.now) slot)) }
+    ensures met { IfOk result (λ kid. MeetsAll arenas.old.nodes arenas.old.leaves was
+        arenas.new.nodes arenas.new.leaves (R.bits region.now - 6) (strides.slot (R.bits region.now)
+        (R.answers region.now) slot)) }
+    ensures refused { IfErr result (λ e. MeetsNotAll arenas.old.nodes arenas.old.leaves was (R.bits
+        region.now - 6) (strides.slot (R.bits region.now) (R.answers region.now) slot) e) }
 {
     match kind {
         Some(_hop) => {
             if let Some(node) = was {
-                set_aside_all(bits - 6, &node, nodes, node_blocks, leaf_blocks)?;
+                set_aside_all(
+                    bits - 6,
+                    &node,
+                    &arenas.nodes,
+                    &mut arenas.node_blocks,
+                    &mut arenas.leaf_blocks,
+                )?;
             }
             Ok(None)
         }
         None => {
             let child = descend(region, slot, 6);
             if let Some(node) = was {
-                if is_same(&child, &node, nodes, leaves) {
+                if is_same(&child, &node, &arenas.nodes, &arenas.leaves) {
                     return Ok(was);
                 }
             }
-            let node = copy_node(
-                &child,
-                bits - 6,
-                was,
-                nodes,
-                node_blocks,
-                leaves,
-                leaf_blocks,
-            )?;
+            let node = copy_node(&child, bits - 6, was, arenas)?;
             Ok(Some(node))
         }
     }

@@ -6,6 +6,7 @@
 //! until no reader is left that may be in them.
 #![tactic(auto)]
 
+mod arenas;
 mod aside;
 mod blocks;
 mod children;
@@ -14,6 +15,7 @@ mod copying;
 mod slots;
 mod words;
 
+pub use arenas::Arenas;
 pub use blocks::Refusal;
 pub use comparing::is_same;
 pub use copying::copy_node;

@@ -8,11 +8,10 @@ ghost use Rattle.path_copying.specs.Words.{IsWord};
 ghost use Rattle.path_copying.specs.Stores.{stored, AreStores, KeepsSlots, ReplacesWords};
 ghost use Rattle.path_copying.specs.Asks.{MeetsSlots, MeetsNotSlots};
 
+use crate::arenas::Arenas;
 use crate::blocks::Refusal;
 use crate::words::copy_word;
-use buddy_arena::{Arena, Blocks};
 use fib_addr::Region;
-use poptrie_build::Node;
 
 /// A direct word to be stored.
 #[derive(Clone, Copy, Debug, PartialEq, Eq)]
@@ -35,10 +34,7 @@ pub fn copy_slots<R: Region>(
     depth: u8,
     first: u32,
     words: &[u32],
-    nodes: &mut Arena<Node>,
-    node_blocks: &mut Blocks,
-    leaves: &mut Arena<u16>,
-    leaf_blocks: &mut Blocks,
+    arenas: &mut Arenas,
     stores: &mut Vec<Store>,
 ) -> Result<(), Refusal>
     requires bits { bits ≡ R.bits region.now }
@@ -46,30 +42,35 @@ pub fn copy_slots<R: Region>(
     requires shallow { depth ≤ 18 }
     requires few { length words.now ≤ 2 ^ 18 }
     requires many { first + 2 ^ depth ≤ length words.now }
-    requires nodes_sized { IsSized nodes.old }
-    requires leaves_sized { IsSized leaves.old }
-    requires nodes_time { node_blocks.old.time < 18446744073709551615 }
-    requires leaves_time { leaf_blocks.old.time < 18446744073709551615 }
-    requires words { (v : ℕ) → first ≤ v → v < first + 2 ^ depth
-        → IsWord nodes.old leaves.old (slice_index words.now v) (bits - depth) }
+    requires nodes_sized { IsSized arenas.old.nodes }
+    requires leaves_sized { IsSized arenas.old.leaves }
+    requires nodes_time { arenas.old.node_blocks.time < 18446744073709551615 }
+    requires leaves_time { arenas.old.leaf_blocks.time < 18446744073709551615 }
+    requires words { (v : ℕ) → first ≤ v → v < first + 2 ^ depth → IsWord arenas.old.nodes
+        arenas.old.leaves (slice_index words.now v) (bits - depth) }
     requires stores { AreStores words.now stores.old.items first }
-    ensures nodes { Gains blank nodes.old node_blocks.old nodes.new node_blocks.new }
-    ensures leaves { Gains 0 leaves.old leaf_blocks.old leaves.new leaf_blocks.new }
+    ensures nodes { Gains blank arenas.old.nodes arenas.old.node_blocks arenas.new.nodes
+        arenas.new.node_blocks }
+    ensures leaves { Gains 0 arenas.old.leaves arenas.old.leaf_blocks arenas.new.leaves
+        arenas.new.leaf_blocks }
     ensures stores { OnOk result (AreStores words.now stores.new.items (first + 2 ^ depth)) }
-    ensures replaces { OnOk result (ReplacesWords nodes.old node_blocks.old leaves.old
-        leaf_blocks.old (stored stores.old.items words.now) nodes.new node_blocks.new leaves.new
-        leaf_blocks.new (stored stores.new.items words.now) first depth (R.bits region.now - depth)
-        (R.answers region.now)) }
-    ensures kept { OnOk result (KeepsSlots nodes.old leaves.old words.now stores.old.items
-        stores.new.items first depth (R.bits region.now - depth) (R.answers region.now)) }
-    ensures met { OnOk result (MeetsSlots nodes.old leaves.old words.now nodes.new leaves.new
-        first depth (R.bits region.now - depth) (R.answers region.now)) }
-    ensures refused { IfErr result (λ e. MeetsNotSlots nodes.old leaves.old words.now first depth
-        (R.bits region.now - depth) (R.answers region.now) e) }
+    ensures replaces { OnOk result (ReplacesWords arenas.old.nodes arenas.old.node_blocks
+        arenas.old.leaves arenas.old.leaf_blocks (stored stores.old.items words.now)
+        arenas.new.nodes arenas.new.node_blocks arenas.new.leaves arenas.new.leaf_blocks (stored
+        stores.new.items words.now) first depth (R.bits region.now - depth) (R.answers region.now))
+        }
+    ensures kept { OnOk result (KeepsSlots arenas.old.nodes arenas.old.leaves words.now
+        stores.old.items stores.new.items first depth (R.bits region.now - depth) (R.answers
+        region.now)) }
+    ensures met { OnOk result (MeetsSlots arenas.old.nodes arenas.old.leaves words.now
+        arenas.new.nodes arenas.new.leaves first depth (R.bits region.now - depth) (R.answers
+        region.now)) }
+    ensures refused { IfErr result (λ e. MeetsNotSlots arenas.old.nodes arenas.old.leaves words.now
+        first depth (R.bits region.now - depth) (R.answers region.now) e) }
 {
     if depth == 0 {
         let word = words[first as usize];
-        let new = copy_word(region, bits, word, nodes, node_blocks, leaves, leaf_blocks)?;
+        let new = copy_word(region, bits, word, arenas)?;
         if new != word {
             stores.reserve(1)?;
             stores.push_reserved(Store {
@@ -86,10 +87,7 @@ pub fn copy_slots<R: Region>(
         below,
         first,
         words,
-        nodes,
-        node_blocks,
-        leaves,
-        leaf_blocks,
+        arenas,
         stores,
     )?;
     copy_slots(
@@ -98,10 +96,7 @@ pub fn copy_slots<R: Region>(
         below,
         first + (1 << below),
         words,
-        nodes,
-        node_blocks,
-        leaves,
-        leaf_blocks,
+        arenas,
         stores,
     )
 }

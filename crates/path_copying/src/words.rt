@@ -9,22 +9,15 @@ ghost use Rattle.path_copying.specs.Aside.{OnlyAside};
 ghost use Rattle.path_copying.specs.Words.{IsWord, node_of, own_array, ReplacesWord, KeepsWord};
 ghost use Rattle.path_copying.specs.Asks.{MeetsWord, MeetsNotWord, MeetsChangedWord, MeetsNotChangedWord};
 
+use crate::arenas::Arenas;
 use crate::aside::set_aside_all;
 use crate::blocks::{Refusal, take_block};
 use crate::comparing::is_same;
 use crate::copying::copy_node;
 use buddy_arena::{Arena, Block, Blocks, put};
 use fib_addr::{Hop, Region};
-use poptrie_build::{HOP, Node};
+use poptrie_build::{DirectWord, Node, hop_word};
 use std::alloc::AllocError;
-
-/// The direct word of a hop.
-fn hop_word(hop: Hop) -> u32
-    ensures word { result ≡ 2 ^ 31 + hop.0 }
-    ensures small { hop.0 < 2 ^ 16 }
-{
-    HOP + u32::from(hop.0)
-}
 
 /// The node of a word, nothing where it is a hop.
 fn word_node(word: u32, nodes: &Arena<Node>) -> Option<Node>
@@ -32,10 +25,10 @@ fn word_node(word: u32, nodes: &Arena<Node>) -> Option<Node>
     requires word { (leaves : Space ℕ) × (d : ℕ) × IsWord nodes.now leaves word d }
     ensures { result ≡ node_of nodes.now.cells word }
 {
-    if word >= HOP {
-        return None;
+    match DirectWord::read(word) {
+        DirectWord::Hop(_hop) => None,
+        DirectWord::Node(place) => Some(nodes.read(place)),
     }
-    Some(nodes.read(word))
 }
 
 /// Puts the block of a word's node aside, nothing where it is a hop.
@@ -46,15 +39,13 @@ fn word_node(word: u32, nodes: &Arena<Node>) -> Option<Node>
 fn set_aside_word(word: u32, node_blocks: &mut Blocks) -> Result<(), AllocError>
     requires time { node_blocks.old.time < 18446744073709551615 }
     ensures nodes { OnlyAside node_blocks.old node_blocks.new }
-    ensures own { OnOk result (node_blocks.new.replaced ≡ node_blocks.old.replaced ++ own_array word) }
+    ensures own { OnOk result (node_blocks.new.replaced ≡ node_blocks.old.replaced ++ own_array
+        word) }
 {
-    if word >= HOP {
-        return Ok(());
+    match DirectWord::read(word) {
+        DirectWord::Hop(_hop) => Ok(()),
+        DirectWord::Node(place) => node_blocks.set_aside(Block { place, order: 0 }),
     }
-    node_blocks.set_aside(Block {
-        place: word,
-        order: 0,
-    })
 }
 
 /// Puts all that a word leads to aside, for a region of so many more bits that has one answer now, and makes that its word.
@@ -99,36 +90,35 @@ fn make_word<R: Region>(
     region: &R,
     bits: u8,
     word: u32,
-    nodes: &mut Arena<Node>,
-    node_blocks: &mut Blocks,
-    leaves: &mut Arena<u16>,
-    leaf_blocks: &mut Blocks,
+    arenas: &mut Arenas,
 ) -> Result<u32, Refusal>
     requires mixed { one_answer (R.bits region.now) (R.answers region.now) ≡ None }
     requires bits { bits ≡ R.bits region.now }
-    requires nodes_sized { IsSized nodes.old }
-    requires leaves_sized { IsSized leaves.old }
-    requires nodes_time { node_blocks.old.time < 18446744073709551615 }
-    requires leaves_time { leaf_blocks.old.time < 18446744073709551615 }
-    requires word { IsWord nodes.old leaves.old word bits }
-    ensures nodes { Gains blank nodes.old node_blocks.old nodes.new node_blocks.new }
-    ensures leaves { Gains 0 leaves.old leaf_blocks.old leaves.new leaf_blocks.new }
-    ensures replaces { IfOk result (λ new. ReplacesWord nodes.old node_blocks.old leaves.old
-        leaf_blocks.old word nodes.new node_blocks.new leaves.new leaf_blocks.new new
-        (R.bits region.now) (R.answers region.now)) }
-    ensures met { IfOk result (λ new. MeetsChangedWord nodes.old leaves.old word nodes.new
-        leaves.new (R.bits region.now) (R.answers region.now)) }
-    ensures refused { IfErr result (λ e. MeetsNotChangedWord nodes.old leaves.old word
+    requires nodes_sized { IsSized arenas.old.nodes }
+    requires leaves_sized { IsSized arenas.old.leaves }
+    requires nodes_time { arenas.old.node_blocks.time < 18446744073709551615 }
+    requires leaves_time { arenas.old.leaf_blocks.time < 18446744073709551615 }
+    requires word { IsWord arenas.old.nodes arenas.old.leaves word bits }
+    ensures nodes { Gains blank arenas.old.nodes arenas.old.node_blocks arenas.new.nodes
+        arenas.new.node_blocks }
+    ensures leaves { Gains 0 arenas.old.leaves arenas.old.leaf_blocks arenas.new.leaves
+        arenas.new.leaf_blocks }
+    ensures replaces { IfOk result (λ new. ReplacesWord arenas.old.nodes arenas.old.node_blocks
+        arenas.old.leaves arenas.old.leaf_blocks word arenas.new.nodes arenas.new.node_blocks
+        arenas.new.leaves arenas.new.leaf_blocks new (R.bits region.now) (R.answers region.now)) }
+    ensures met { IfOk result (λ new. MeetsChangedWord arenas.old.nodes arenas.old.leaves word
+        arenas.new.nodes arenas.new.leaves (R.bits region.now) (R.answers region.now)) }
+    ensures refused { IfErr result (λ e. MeetsNotChangedWord arenas.old.nodes arenas.old.leaves word
         (R.bits region.now) (R.answers region.now) e) }
 {
-    let was = word_node(word, nodes);
-    set_aside_word(word, node_blocks)?;
-    let place = match take_block(nodes, node_blocks, 1) {
+    let was = word_node(word, &arenas.nodes);
+    set_aside_word(word, &mut arenas.node_blocks)?;
+    let place = match take_block(&mut arenas.nodes, &mut arenas.node_blocks, 1) {
         Ok(place) => place,
         Err(refused) => return Err(Refusal::of_nodes(refused)),
     };
-    let node = copy_node(region, bits, was, nodes, node_blocks, leaves, leaf_blocks)?;
-    put(nodes, place, node);
+    let node = copy_node(region, bits, was, arenas)?;
+    put(&mut arenas.nodes, place, node);
     Ok(place)
 }
 
@@ -142,41 +132,47 @@ pub fn copy_word<R: Region>(
     region: &R,
     bits: u8,
     word: u32,
-    nodes: &mut Arena<Node>,
-    node_blocks: &mut Blocks,
-    leaves: &mut Arena<u16>,
-    leaf_blocks: &mut Blocks,
+    arenas: &mut Arenas,
 ) -> Result<u32, Refusal>
     requires bits { bits ≡ R.bits region.now }
-    requires nodes_sized { IsSized nodes.old }
-    requires leaves_sized { IsSized leaves.old }
-    requires nodes_time { node_blocks.old.time < 18446744073709551615 }
-    requires leaves_time { leaf_blocks.old.time < 18446744073709551615 }
-    requires word { IsWord nodes.old leaves.old word bits }
-    ensures nodes { Gains blank nodes.old node_blocks.old nodes.new node_blocks.new }
-    ensures leaves { Gains 0 leaves.old leaf_blocks.old leaves.new leaf_blocks.new }
-    ensures replaces { IfOk result (λ new. ReplacesWord nodes.old node_blocks.old leaves.old
-        leaf_blocks.old word nodes.new node_blocks.new leaves.new leaf_blocks.new new
-        (R.bits region.now) (R.answers region.now)) }
-    ensures kept { IfOk result (λ new. KeepsWord nodes.old leaves.old word new (R.bits region.now)
-        (R.answers region.now)) }
-    ensures met { IfOk result (λ new. MeetsWord nodes.old leaves.old word nodes.new leaves.new
-        (R.bits region.now) (R.answers region.now)) }
-    ensures refused { IfErr result (λ e. MeetsNotWord nodes.old leaves.old word
+    requires nodes_sized { IsSized arenas.old.nodes }
+    requires leaves_sized { IsSized arenas.old.leaves }
+    requires nodes_time { arenas.old.node_blocks.time < 18446744073709551615 }
+    requires leaves_time { arenas.old.leaf_blocks.time < 18446744073709551615 }
+    requires word { IsWord arenas.old.nodes arenas.old.leaves word bits }
+    ensures nodes { Gains blank arenas.old.nodes arenas.old.node_blocks arenas.new.nodes
+        arenas.new.node_blocks }
+    ensures leaves { Gains 0 arenas.old.leaves arenas.old.leaf_blocks arenas.new.leaves
+        arenas.new.leaf_blocks }
+    ensures replaces { IfOk result (λ new. ReplacesWord arenas.old.nodes arenas.old.node_blocks
+        arenas.old.leaves arenas.old.leaf_blocks word arenas.new.nodes arenas.new.node_blocks
+        arenas.new.leaves arenas.new.leaf_blocks new (R.bits region.now) (R.answers region.now)) }
+    ensures kept { IfOk result (λ new. KeepsWord arenas.old.nodes arenas.old.leaves word new (R.bits
+        region.now) (R.answers region.now)) }
+    ensures met { IfOk result (λ new. MeetsWord arenas.old.nodes arenas.old.leaves word
+        arenas.new.nodes arenas.new.leaves (R.bits region.now) (R.answers region.now)) }
+    ensures refused { IfErr result (λ e. MeetsNotWord arenas.old.nodes arenas.old.leaves word
         (R.bits region.now) (R.answers region.now) e) }
 {
     match region.only() {
         Some(hop) => {
-            let word = leave_word(bits, word, hop, nodes, node_blocks, leaf_blocks)?;
+            let word = leave_word(
+                bits,
+                word,
+                hop,
+                &arenas.nodes,
+                &mut arenas.node_blocks,
+                &mut arenas.leaf_blocks,
+            )?;
             Ok(word)
         }
         None => {
-            if let Some(node) = word_node(word, nodes) {
-                if is_same(region, &node, nodes, leaves) {
+            if let Some(node) = word_node(word, &arenas.nodes) {
+                if is_same(region, &node, &arenas.nodes, &arenas.leaves) {
                     return Ok(word);
                 }
             }
-            let word = make_word(region, bits, word, nodes, node_blocks, leaves, leaf_blocks)?;
+            let word = make_word(region, bits, word, arenas)?;
             Ok(word)
         }
     }

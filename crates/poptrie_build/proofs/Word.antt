@@ -78,3 +78,15 @@ slot_by s key h = let e : 1 + (127 - s) ≡ 128 - s = omega arith in shr-shr key
 
 pub small_by : (s key : ℕ) → s < 32 → key < 2 ^ 128 → key / 2 / 2 ^ (127 - s) < 2 ^ 31
 small_by s key h l = subst (λ (i : ℕ). i < 2 ^ 31) (sym (slot_by s key (omega arith))) (slot_small s key h l)
+
+-- the node that a word is told to be
+pub stands_at_root : (root i s : ℕ) (direct : List ℕ) (nodes : List Node) (leaves : List ℕ) (region : Region) (key : ℕ) → root ≡ get_or direct i 0 → i ≡ key / 2 ^ (128 - s) → s + region.bits ≤ 128 → key < 2 ^ 128 → TrieStands s direct region.strides nodes leaves region.bits region.answers → get_or direct i 0 < 2 ^ 31 → Stands region.strides nodes leaves root region.bits (part (address s key) region.answers)
+stands_at_root root i s direct nodes leaves region key is e h l t small = subst (λ (n : ℕ). Stands region.strides nodes leaves n region.bits (part (address s key) region.answers)) (sym is) (stands_at_word i s direct nodes leaves region key e h l t small)
+
+-- the hop that it is told to be
+pub is_hop : (w hop s k d : ℕ) (f : List Bool → ℕ) (key : ℕ) → (w < 2 ^ 31 + 2 ^ 16 → w ≡ 2 ^ 31 + hop) → 2 ^ 31 ≤ w → Hop w s k d f key → hop ≡ f (address (s + d) key)
+is_hop w hop s k d f key told big h =
+    let small : w - 2 ^ 31 < 2 ^ 16 = h.small in
+    let e : w ≡ 2 ^ 31 + hop = told (omega (arith, small)) in
+    let is : hop ≡ w - 2 ^ 31 = omega (arith, e) in
+    is ∙ h.hop

@@ -12,3 +12,4 @@ pub mod Arrays
 pub mod Keys
 pub mod Put
 pub mod Surveyed
+pub mod Words

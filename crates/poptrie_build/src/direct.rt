@@ -1,4 +1,4 @@
-//! The direct words: a slot's hop beside the top bit, or the place of its node.
+//! The direct words of a region's slots, filled with their nodes.
 
 ghost use Rattle.std.specs.Prelude.{◌≡◌, ℕ, ◌+◌, ◌-◌, ◌*◌, ◌^◌, ◌<◌, ◌≤◌, true, length, ◌∷◌, None, IfSome, IsSome};
 ghost use Rattle.fib_addr.specs.Answers.{one_answer};
@@ -11,20 +11,10 @@ ghost use Rattle.buddy_arena.specs.Arrays.{AreApart};
 ghost use Rattle.poptrie_build.specs.Arrays.{node_arrays, leaf_arrays, word_arrays, word_leaf_arrays};
 
 use crate::building::build_node;
+use crate::direct_word::hop_word;
 use crate::node::Node;
 use buddy_arena::{Arena, put, take_places};
-use fib_addr::{Hop, Region};
-
-/// The top bit of a direct word, which a hop stands beside.
-pub const HOP: u32 = 1 << 31;
-
-/// The direct word of a hop.
-fn leaf_word(hop: Hop) -> u32
-    ensures word { result ≡ 2 ^ 31 + hop.0 }
-    ensures small { hop.0 < 2 ^ 16 }
-{
-    HOP + u32::from(hop.0)
-}
+use fib_addr::Region;
 
 /// Sets the direct words of a region's slots, of `depth` more bits, and builds their nodes; false where a block is refused. What
 /// was out keeps what it holds.
@@ -74,7 +64,7 @@ pub(crate) fn fill_words<R: Region>(
 {
     match region.only() {
         Some(hop) => {
-            let leaf = leaf_word(hop);
+            let leaf = hop_word(hop);
             for word in words.iter_mut() {
                 *word = leaf;
             }

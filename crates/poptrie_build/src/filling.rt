@@ -10,7 +10,8 @@ ghost use Rattle.poptrie_build.specs.Arrays.{word_arrays, word_leaf_arrays};
 ghost use Rattle.poptrie_build.specs.Tries.{IsTooMuch};
 
 use crate::counts::count_words;
-use crate::direct::{HOP, fill_words};
+use crate::direct::fill_words;
+use crate::direct_word::HOP;
 use crate::node::Node;
 use buddy_arena::Arena;
 use fib_addr::Region;

@@ -13,6 +13,7 @@
 mod building;
 mod counts;
 mod direct;
+mod direct_word;
 mod filling;
 mod key;
 mod lookup;
@@ -25,7 +26,7 @@ mod tally;
 mod trie;
 
 pub use counts::{Needs, count_words};
-pub use direct::HOP;
+pub use direct_word::{DirectWord, HOP, hop_word};
 pub use filling::{TrieFull, clear_all, fill_all};
 pub use lookup::{Found, key_of};
 pub use making::{Vectors, make_vectors};

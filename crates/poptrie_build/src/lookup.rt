@@ -8,7 +8,7 @@ ghost use Rattle.poptrie_build.specs.Strides.{Region, address, trie_visits};
 ghost use Rattle.poptrie_build.specs.Led.{IsLed, IsWhole, StandsBelow, StandsWhole};
 ghost use Rattle.poptrie_build.specs.Keys.{key_as};
 
-use crate::direct::HOP;
+use crate::direct_word::DirectWord;
 use crate::key::Key;
 use crate::node::{Node, rank};
 use buddy_arena::Arena;
@@ -95,14 +95,10 @@ fn find<K: Key, L: Ledger>(
         → 6 * result.visits ≤ r.bits + 5 }
     ensures steps { steps.new ≡ steps.old + result.visits }
 {
-    let word = words[key.head(direct_bits)];
-    if word >= HOP {
-        return Found {
-            hop: Hop((word - HOP) as u16),
-            visits: 0,
-        };
+    match DirectWord::read(words[key.head(direct_bits)]) {
+        DirectWord::Hop(hop) => Found { hop, visits: 0 },
+        DirectWord::Node(root) => find_below(nodes, leaves, root, key, direct_bits, steps),
     }
-    find_below(nodes, leaves, word, key, direct_bits, steps)
 }
 
 /// The bits of an address as the first of 128.

@@ -2,7 +2,7 @@
 
 ghost use Rattle.std.specs.Prelude.{◌≡◌, ◌^◌, ◌≤◌, IfOk, replicate};
 
-use crate::direct::HOP;
+use crate::direct_word::HOP;
 use crate::filling::{TrieFull, fill_all};
 use crate::lookup::{Found, find_addr};
 use crate::node::Node;

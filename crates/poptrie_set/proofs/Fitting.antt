@@ -27,7 +27,7 @@ module _ (l : Seen) (os : List Reader) (f : FitsIn l os) where
   store_fits words = fits_all l (record l { words = words; made = suc l.made }) os
       (λ o r. (
         r.0,
-        reads_again o.left l.nodes.space.cells l.nodes.space.cells _ _ l.leaves.space.cells l.leaves.space.cells _ _ o.node o.key o.answer
+        reads_again o.left l.nodes.space.cells l.nodes.space.cells _ _ l.leaves.space.cells l.leaves.space.cells _ _ o.node o.bits o.answer
             (same_cells blank _ _ (safe l.nodes l.made o.since) (safe l.nodes (suc l.made) o.since) refl (λ i s. store_safe l.nodes l.made o.since i s))
             (same_cells 0 _ _ (safe l.leaves l.made o.since) (safe l.leaves (suc l.made) o.since) refl (λ i s. store_safe l.leaves l.made o.since i s)) r.1,
       )) f
@@ -36,7 +36,7 @@ module _ (l : Seen) (os : List Reader) (f : FitsIn l os) where
   end_fits = fits_all l (at_its_end l) os
       (λ o r. (
         omega (arith, r.0),
-        reads_again o.left l.nodes.space.cells l.nodes.space.cells _ _ l.leaves.space.cells l.leaves.space.cells _ _ o.node o.key o.answer
+        reads_again o.left l.nodes.space.cells l.nodes.space.cells _ _ l.leaves.space.cells l.leaves.space.cells _ _ o.node o.bits o.answer
             (same_cells blank _ _ (safe l.nodes l.made o.since) (safe (at_its_end l).nodes 0 o.since) refl (λ i s. end_safe l.nodes l.made o.since (suc l.time) i (omega (arith, r.0)) s))
             (same_cells 0 _ _ (safe l.leaves l.made o.since) (safe (at_its_end l).leaves 0 o.since) refl (λ i s. end_safe l.leaves l.made o.since (suc l.time) i (omega (arith, r.0)) s)) r.1,
       )) f
@@ -46,7 +46,7 @@ module _ (l : Seen) (os : List Reader) (f : FitsIn l os) where
     cancel_fits z a b = fits_all l (at_its_cancel l nodes leaves) os
         (λ o r. (
           r.0,
-          reads_again o.left l.nodes.space.cells nodes.cells _ _ l.leaves.space.cells leaves.cells _ _ o.node o.key o.answer
+          reads_again o.left l.nodes.space.cells nodes.cells _ _ l.leaves.space.cells leaves.cells _ _ o.node o.bits o.answer
               (same_cells blank _ _ (safe l.nodes l.made o.since) (safe (record { space = nodes; taken = []; replaced = []; retired = l.nodes.retired }) 0 o.since) a.cells (λ i s. cancel_safe l.nodes nodes o.since i a (subst (λ (m : ℕ). safe l.nodes m o.since i ≡ true) z s)))
               (same_cells 0 _ _ (safe l.leaves l.made o.since) (safe (record { space = leaves; taken = []; replaced = []; retired = l.leaves.retired }) 0 o.since) b.cells (λ i s. cancel_safe l.leaves leaves o.since i b (subst (λ (m : ℕ). safe l.leaves m o.since i ≡ true) z s))) r.1,
         )) f
@@ -56,7 +56,7 @@ module _ (l : Seen) (os : List Reader) (f : FitsIn l os) where
     release_fits since all n1 n2 a b = go os all f
       where
         one : (o : Reader) → since ≤ o.since → ReadsIn l o → ReadsIn (record l { nodes = record { space = nodes; taken = []; replaced = []; retired = late since l.nodes.retired }; leaves = record { space = leaves; taken = []; replaced = []; retired = late since l.leaves.retired } }) o
-        one o le r = (r.0, reads_again o.left l.nodes.space.cells nodes.cells _ _ l.leaves.space.cells leaves.cells _ _ o.node o.key o.answer (same_cells blank _ _ (safe l.nodes l.made o.since) (safe (record { space = nodes; taken = []; replaced = []; retired = late since l.nodes.retired }) l.made o.since) a.cells (λ i s. release_safe since o.since le l.nodes nodes a n1 l.made i s)) (same_cells 0 _ _ (safe l.leaves l.made o.since) (safe (record { space = leaves; taken = []; replaced = []; retired = late since l.leaves.retired }) l.made o.since) b.cells (λ i s. release_safe since o.since le l.leaves leaves b n2 l.made i s)) r.1)
+        one o le r = (r.0, reads_again o.left l.nodes.space.cells nodes.cells _ _ l.leaves.space.cells leaves.cells _ _ o.node o.bits o.answer (same_cells blank _ _ (safe l.nodes l.made o.since) (safe (record { space = nodes; taken = []; replaced = []; retired = late since l.nodes.retired }) l.made o.since) a.cells (λ i s. release_safe since o.since le l.nodes nodes a n1 l.made i s)) (same_cells 0 _ _ (safe l.leaves l.made o.since) (safe (record { space = leaves; taken = []; replaced = []; retired = late since l.leaves.retired }) l.made o.since) b.cells (λ i s. release_safe since o.since le l.leaves leaves b n2 l.made i s)) r.1)
 
         go : (xs : List Reader) → AllByRecursion (λ (o : Reader). since ≤ o.since) xs → FitsIn l xs → FitsIn (record l { nodes = record { space = nodes; taken = []; replaced = []; retired = late since l.nodes.retired }; leaves = record { space = leaves; taken = []; replaced = []; retired = late since l.leaves.retired } }) xs
         go [] x y = tt
@@ -67,7 +67,7 @@ module _ (l : Seen) (os : List Reader) (f : FitsIn l os) where
     prepare_fits taken replaced taken2 replaced2 stores a b = fits_all l (record l { nodes = record { space = nodes; taken = taken; replaced = replaced; retired = l.nodes.retired }; leaves = record { space = leaves; taken = taken2; replaced = replaced2; retired = l.leaves.retired }; pending = true; stores = stores; made = 0 }) os
         (λ o r. (
           r.0,
-          reads_again o.left l.nodes.space.cells nodes.cells _ _ l.leaves.space.cells leaves.cells _ _ o.node o.key o.answer
+          reads_again o.left l.nodes.space.cells nodes.cells _ _ l.leaves.space.cells leaves.cells _ _ o.node o.bits o.answer
               (record { inside = λ i s. grown_safe l.nodes nodes taken replaced l.made o.since i a.keeps.still a.apart s; same = λ i s. a.keeps.same i (safe_out l.nodes l.made o.since i s); long = a.keeps.long })
               (record { inside = λ i s. grown_safe l.leaves leaves taken2 replaced2 l.made o.since i b.keeps.still b.apart s; same = λ i s. b.keeps.same i (safe_out l.leaves l.made o.since i s); long = b.keeps.long }) r.1,
         )) f

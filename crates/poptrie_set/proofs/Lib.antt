@@ -1,5 +1,6 @@
 pub mod Steps
 pub mod Kept
+pub mod Key_bits
 pub mod Read_on
 pub mod Safe
 pub mod First_go

@@ -318,7 +318,7 @@ module _ (f : Family) (s : ℕ) (words : List ℕ) (nodes nodes2 : Space Node) (
       (fits_all l m os
       (λ o r. (
         r.0,
-        reads_again o.left nodes.cells nodes2.cells _ _ leaves.cells leaves2.cells _ _ o.node o.key o.answer
+        reads_again o.left nodes.cells nodes2.cells _ _ leaves.cells leaves2.cells _ _ o.node o.bits o.answer
             (record { inside = λ i z. same_safe blank nodes nodes2 nb.taken nb.replaced nb.retired o.since i rn.free z; same = λ i z. rn.keeps.same i (safe_out l.nodes made o.since i z); long = rn.keeps.long })
             (record { inside = λ i z. same_safe 0 leaves leaves2 lb.taken lb.replaced lb.retired o.since i rl.free z; same = λ i z. rl.keeps.same i (safe_out l.leaves made o.since i z); long = rl.keeps.long }) r.1,
       )) fits)

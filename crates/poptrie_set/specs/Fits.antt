@@ -1,5 +1,5 @@
 -- What the open lookups may read.
-use Rattle.std.specs.Prelude.{◌≡◌, ℕ, ◌≤◌, List, []}
+use Rattle.std.specs.Prelude.{◌≡◌, ℕ, ◌≤◌, List, [], Bool}
 use Rattle.std.specs.List.{AllByRecursion}
 use Rattle.poptrie_set.specs.Rooms.{safe}
 use Rattle.poptrie_set.specs.Lives.{Seen}
@@ -12,13 +12,13 @@ use Rattle.poptrie_set.specs.declared.trie_set.Oldest.TheVariants as oldest
 pub record Reader : Type 0 where
   pub since : ℕ
   pub node : ℕ
-  pub key : ℕ
+  pub bits : List Bool
   pub answer : ℕ
   pub left : ℕ
 
 -- reading on in the selected set ends as it is due, in places that nothing writes or gives back before the lookup ends
 abbrev pub ReadsIn : Seen → Reader → Type 0
-ReadsIn l o = (o.since ≤ l.time) × ReadsOn o.left l.nodes.space.cells (safe l.nodes l.made o.since) l.leaves.space.cells (safe l.leaves l.made o.since) o.node o.key o.answer
+ReadsIn l o = (o.since ≤ l.time) × ReadsOn o.left l.nodes.space.cells (safe l.nodes l.made o.since) l.leaves.space.cells (safe l.leaves l.made o.since) o.node o.bits o.answer
 
 abbrev pub FitsIn : Seen → List Reader → Type 0
 FitsIn l os = AllByRecursion (ReadsIn l) os

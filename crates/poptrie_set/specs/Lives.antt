@@ -8,6 +8,7 @@ use Rattle.buddy_arena.specs.Places.{is_out}
 use Rattle.buddy_arena.specs.Arrays.{places_of}
 use Rattle.buddy_arena.specs.Blocks.{Held, blocks_of, AreHeldIn, AreRetiredBy}
 use Rattle.poptrie_build.specs.Tries.{node_need, leaf_need, IsTooMuch}
+use Rattle.poptrie_build.specs.declared.counts.Needs.{Needs}
 use Rattle.poptrie_build.specs.declared.filling.TrieFull.{TrieFull}
 use Rattle.poptrie_build.specs.declared.node.Node.{Node}
 use Rattle.path_copying.specs.declared.slots.Store.{Store as Stored}
@@ -118,3 +119,7 @@ IsTokenIn p l = (l.pending ≡ true) × (p.made ≡ l.made)
 -- leaves
 abbrev pub IsTooMuchFor : Seen → Entries → TrieFull → Type 0
 IsTooMuchFor l L e = IsTooMuch e.arena e.need e.have (node_need l.family l.direct_bits L) (leaf_need l.family l.direct_bits L) (2 ^ l.nodes.space.order) (2 ^ l.leaves.space.order)
+
+-- the needs of a trie for the entries
+abbrev pub AreNeedsOf : Needs → Seen → Entries → Type 0
+AreNeedsOf n l L = (n.nodes ≡ node_need l.family l.direct_bits L) × (n.leaves ≡ leaf_need l.family l.direct_bits L)

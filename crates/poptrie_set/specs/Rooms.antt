@@ -1,8 +1,8 @@
 -- An arena with its blocks that belong to no present version, or won't, and the places that a lookup may read.
-use Rattle.std.specs.Prelude.{ℕ, List, [], ◌++◌, Bool, not, ◌&&◌, nat_eq}
+use Rattle.std.specs.Prelude.{◌≡◌, ℕ, ◌+◌, ◌^◌, List, [], ◌++◌, Bool, not, ◌&&◌, nat_eq}
 use Rattle.buddy_arena.specs.Space.{Space}
-use Rattle.buddy_arena.specs.Places.{is_out}
-use Rattle.buddy_arena.specs.Arrays.{Array, among}
+use Rattle.buddy_arena.specs.Places.{is_out, count_free}
+use Rattle.buddy_arena.specs.Arrays.{Array, among, places_of}
 use Rattle.buddy_arena.specs.Blocks.{Held, Retired, blocks_of, early, at_end}
 
 -- the blocks that the pending update took, those that it replaces, and the retired ones
@@ -27,3 +27,7 @@ quiet_room s retired = record { space = s; taken = []; replaced = []; retired = 
 -- a store could lead to them
 abbrev pub safe : {T : Type 0} → Room T → ℕ → ℕ → ℕ → Bool
 safe r made since i = is_out r.space.free i && not (among (blocks_of (early since r.retired)) i) && not (nat_eq made 0 && among r.taken i)
+
+-- so many places are neither free nor in a block that the update took or a retired one
+abbrev pub IsRest : {T : Type 0} → ℕ → Space T → Held → Type 0
+IsRest n s h = count_free s + (places_of (h.taken ++ blocks_of h.retired) + n) ≡ 2 ^ s.order

@@ -1,8 +1,8 @@
 //! The reads of a paused lookup.
 
-ghost use Rattle.std.specs.Prelude.{ℕ, ◌<◌, Bool};
+ghost use Rattle.std.specs.Prelude.{ℕ, ◌<◌, List, Bool};
 ghost use Rattle.buddy_arena.specs.Space.{IsSized};
-ghost use Rattle.poptrie_set.specs.Reading.{ReadsOn, CanRead, LeadsOn};
+ghost use Rattle.poptrie_set.specs.Reading.{ReadsOn, CanRead, LeadsOn, IsKeyOf};
 
 use buddy_arena::Arena;
 use fib_addr::Hop;
@@ -33,10 +33,11 @@ pub(crate) fn visit(
     requires nodes_sized { IsSized nodes.now }
     requires leaves_sized { IsSized leaves.now }
     requires stride { stride < 255 }
-    requires can { CanRead nodes.now.cells leaves.now.cells node key }
-    ensures leads { (left h : ℕ) (N L : ℕ → Bool)
-        → ReadsOn left nodes.now.cells N leaves.now.cells L node key h
-        → LeadsOn result left nodes.now.cells N leaves.now.cells L stride key h }
+    requires can { (bits : List Bool) × IsKeyOf key bits
+        × CanRead nodes.now.cells leaves.now.cells node bits }
+    ensures leads { (bits : List Bool) (left h : ℕ) (N L : ℕ → Bool) → IsKeyOf key bits
+        → ReadsOn left nodes.now.cells N leaves.now.cells L node bits h
+        → LeadsOn result left nodes.now.cells N leaves.now.cells L stride bits h }
 {
     let at = nodes.read(node);
     let slot = (key >> 122) as u8;

@@ -15,10 +15,8 @@ ghost use Rattle.path_copying.specs.Words.{IsWord};
 ghost use Rattle.path_copying.specs.Stores.{stored, AreStores};
 ghost use Rattle.poptrie_set.specs.Renewals.{Rebuilds, SetsAside, MeetsRenewal, MeetsNotRenewal, KeepsRenewal, GivesAllBack};
 
-use buddy_arena::{Arena, Blocks};
 use fib_addr::{Prefix, Region};
-use path_copying::{Refusal, Store, copy_slots};
-use poptrie_build::Node;
+use path_copying::{Arenas, Refusal, Store, copy_slots};
 
 /// The part of a region whose addresses have these bits next, one at least.
 fn part_of<R: Region>(region: &R, number: u32, depth: u8) -> R
@@ -47,57 +45,46 @@ fn rebuild<R: Region>(
     prefix: &Prefix,
     direct_bits: u8,
     words: &[u32],
-    nodes: &mut Arena<Node>,
-    node_blocks: &mut Blocks,
-    leaves: &mut Arena<u16>,
-    leaf_blocks: &mut Blocks,
+    arenas: &mut Arenas,
     stores: &mut Vec<Store>,
 ) -> Result<(), Refusal>
     requires bits { R.bits region.now ≡ width prefix.now.family }
     requires few { direct_bits ≤ 18 }
     requires many { length words.now ≡ 2 ^ direct_bits }
-    requires nodes_sized { IsSized nodes.old }
-    requires leaves_sized { IsSized leaves.old }
-    requires nodes_time { node_blocks.old.time < 18446744073709551615 }
-    requires leaves_time { leaf_blocks.old.time < 18446744073709551615 }
-    requires words { (v : ℕ) → v < 2 ^ direct_bits
-        → IsWord nodes.old leaves.old (slice_index words.now v) (R.bits region.now - direct_bits) }
+    requires nodes_sized { IsSized arenas.old.nodes }
+    requires leaves_sized { IsSized arenas.old.leaves }
+    requires nodes_time { arenas.old.node_blocks.time < 18446744073709551615 }
+    requires leaves_time { arenas.old.leaf_blocks.time < 18446744073709551615 }
+    requires words { (v : ℕ) → v < 2 ^ direct_bits → IsWord arenas.old.nodes arenas.old.leaves
+        (slice_index words.now v) (R.bits region.now - direct_bits) }
     requires none { stores.old.items ≡ [] }
-    ensures nodes { Gains blank nodes.old node_blocks.old nodes.new node_blocks.new }
-    ensures leaves { Gains 0 leaves.old leaf_blocks.old leaves.new leaf_blocks.new }
+    ensures nodes { Gains blank arenas.old.nodes arenas.old.node_blocks arenas.new.nodes
+        arenas.new.node_blocks }
+    ensures leaves { Gains 0 arenas.old.leaves arenas.old.leaf_blocks arenas.new.leaves
+        arenas.new.leaf_blocks }
     ensures stores { OnOk result (AreStores words.now stores.new.items (2 ^ direct_bits)) }
-    ensures rebuilds { OnOk result (Rebuilds nodes.old node_blocks.old leaves.old leaf_blocks.old
-        (stored [] words.now) nodes.new node_blocks.new leaves.new leaf_blocks.new
-        (stored stores.new.items words.now) (prefix_as prefix.now).bits direct_bits
-        (R.bits region.now - direct_bits) (R.answers region.now)) }
-    ensures aside { OnOk result (SetsAside nodes.old node_blocks.old leaves.old leaf_blocks.old
-        (stored [] words.now) nodes.new node_blocks.new leaves.new leaf_blocks.new direct_bits
-        (R.bits region.now - direct_bits)) }
-    ensures kept { OnOk result (KeepsRenewal nodes.old leaves.old words.now stores.new.items
-        (prefix_as prefix.now).bits direct_bits (R.bits region.now - direct_bits)
+    ensures rebuilds { OnOk result (Rebuilds arenas.old.nodes arenas.old.node_blocks
+        arenas.old.leaves arenas.old.leaf_blocks (stored [] words.now) arenas.new.nodes
+        arenas.new.node_blocks arenas.new.leaves arenas.new.leaf_blocks (stored stores.new.items
+        words.now) (prefix_as prefix.now).bits direct_bits (R.bits region.now - direct_bits)
         (R.answers region.now)) }
-    ensures met { OnOk result (MeetsRenewal nodes.old leaves.old words.now nodes.new leaves.new
-        (prefix_as prefix.now).bits direct_bits (R.bits region.now - direct_bits)
+    ensures aside { OnOk result (SetsAside arenas.old.nodes arenas.old.node_blocks arenas.old.leaves
+        arenas.old.leaf_blocks (stored [] words.now) arenas.new.nodes arenas.new.node_blocks
+        arenas.new.leaves arenas.new.leaf_blocks direct_bits (R.bits region.now - direct_bits)) }
+    ensures kept { OnOk result (KeepsRenewal arenas.old.nodes arenas.old.leaves words.now
+        stores.new.items (prefix_as prefix.now).bits direct_bits (R.bits region.now - direct_bits)
         (R.answers region.now)) }
-    ensures refused { IfErr result (λ e. MeetsNotRenewal nodes.old leaves.old words.now
-        (prefix_as prefix.now).bits direct_bits (R.bits region.now - direct_bits)
+    ensures met { OnOk result (MeetsRenewal arenas.old.nodes arenas.old.leaves words.now
+        arenas.new.nodes arenas.new.leaves (prefix_as prefix.now).bits direct_bits (R.bits
+        region.now - direct_bits) (R.answers region.now)) }
+    ensures refused { IfErr result (λ e. MeetsNotRenewal arenas.old.nodes arenas.old.leaves
+        words.now (prefix_as prefix.now).bits direct_bits (R.bits region.now - direct_bits)
         (R.answers region.now) e) }
 {
     let bits = prefix.family.width();
     let len = prefix.len.min(direct_bits);
     if len == 0 {
-        return copy_slots(
-            region,
-            bits,
-            direct_bits,
-            0,
-            words,
-            nodes,
-            node_blocks,
-            leaves,
-            leaf_blocks,
-            stores,
-        );
+        return copy_slots(region, bits, direct_bits, 0, words, arenas, stores);
     }
     let number = (prefix.bits >> (bits - len)) as u32;
     let depth = direct_bits - len;
@@ -107,10 +94,7 @@ fn rebuild<R: Region>(
         depth,
         number << depth,
         words,
-        nodes,
-        node_blocks,
-        leaves,
-        leaf_blocks,
+        arenas,
         stores,
     )
 }
@@ -125,69 +109,59 @@ pub(crate) fn rebuild_or_undo<R: Region>(
     prefix: &Prefix,
     direct_bits: u8,
     words: &[u32],
-    nodes: &mut Arena<Node>,
-    node_blocks: &mut Blocks,
-    leaves: &mut Arena<u16>,
-    leaf_blocks: &mut Blocks,
+    arenas: &mut Arenas,
     stores: &mut Vec<Store>,
 ) -> Result<(), Refusal>
     requires bits { R.bits region.now ≡ width prefix.now.family }
     requires few { direct_bits ≤ 18 }
     requires many { length words.now ≡ 2 ^ direct_bits }
-    requires nodes_sized { IsSized nodes.old }
-    requires leaves_sized { IsSized leaves.old }
-    requires nodes_time { node_blocks.old.time < 18446744073709551615 }
-    requires leaves_time { leaf_blocks.old.time < 18446744073709551615 }
-    requires words { (v : ℕ) → v < 2 ^ direct_bits
-        → IsWord nodes.old leaves.old (slice_index words.now v) (R.bits region.now - direct_bits) }
+    requires nodes_sized { IsSized arenas.old.nodes }
+    requires leaves_sized { IsSized arenas.old.leaves }
+    requires nodes_time { arenas.old.node_blocks.time < 18446744073709551615 }
+    requires leaves_time { arenas.old.leaf_blocks.time < 18446744073709551615 }
+    requires words { (v : ℕ) → v < 2 ^ direct_bits → IsWord arenas.old.nodes arenas.old.leaves
+        (slice_index words.now v) (R.bits region.now - direct_bits) }
     requires none { stores.old.items ≡ [] }
-    requires nodes_quiet { node_blocks.old ≡ cancelled node_blocks.old }
-    requires leaves_quiet { leaf_blocks.old ≡ cancelled leaf_blocks.old }
-    requires nodes_held { AreApart (is_out nodes.old.free) (blocks_of node_blocks.old.retired) }
-    requires leaves_held { AreApart (is_out leaves.old.free) (blocks_of leaf_blocks.old.retired) }
-    ensures nodes { OnOk result (Gains blank nodes.old node_blocks.old nodes.new
-        node_blocks.new) }
-    ensures leaves { OnOk result (Gains 0 leaves.old leaf_blocks.old leaves.new
-        leaf_blocks.new) }
+    requires nodes_quiet { arenas.old.node_blocks ≡ cancelled arenas.old.node_blocks }
+    requires leaves_quiet { arenas.old.leaf_blocks ≡ cancelled arenas.old.leaf_blocks }
+    requires nodes_held { AreApart (is_out arenas.old.nodes.free) (blocks_of
+        arenas.old.node_blocks.retired) }
+    requires leaves_held { AreApart (is_out arenas.old.leaves.free) (blocks_of
+        arenas.old.leaf_blocks.retired) }
+    ensures nodes { OnOk result (Gains blank arenas.old.nodes arenas.old.node_blocks
+        arenas.new.nodes arenas.new.node_blocks) }
+    ensures leaves { OnOk result (Gains 0 arenas.old.leaves arenas.old.leaf_blocks arenas.new.leaves
+        arenas.new.leaf_blocks) }
     ensures stores { OnOk result (AreStores words.now stores.new.items (2 ^ direct_bits)) }
-    ensures rebuilds { OnOk result (Rebuilds nodes.old node_blocks.old leaves.old leaf_blocks.old
-        (stored [] words.now) nodes.new node_blocks.new leaves.new leaf_blocks.new
-        (stored stores.new.items words.now) (prefix_as prefix.now).bits direct_bits
-        (R.bits region.now - direct_bits) (R.answers region.now)) }
-    ensures aside { OnOk result (SetsAside nodes.old node_blocks.old leaves.old leaf_blocks.old
-        (stored [] words.now) nodes.new node_blocks.new leaves.new leaf_blocks.new direct_bits
-        (R.bits region.now - direct_bits)) }
-    ensures kept { OnOk result (KeepsRenewal nodes.old leaves.old words.now stores.new.items
-        (prefix_as prefix.now).bits direct_bits (R.bits region.now - direct_bits)
+    ensures rebuilds { OnOk result (Rebuilds arenas.old.nodes arenas.old.node_blocks
+        arenas.old.leaves arenas.old.leaf_blocks (stored [] words.now) arenas.new.nodes
+        arenas.new.node_blocks arenas.new.leaves arenas.new.leaf_blocks (stored stores.new.items
+        words.now) (prefix_as prefix.now).bits direct_bits (R.bits region.now - direct_bits)
         (R.answers region.now)) }
-    ensures met { OnOk result (MeetsRenewal nodes.old leaves.old words.now nodes.new leaves.new
-        (prefix_as prefix.now).bits direct_bits (R.bits region.now - direct_bits)
+    ensures aside { OnOk result (SetsAside arenas.old.nodes arenas.old.node_blocks arenas.old.leaves
+        arenas.old.leaf_blocks (stored [] words.now) arenas.new.nodes arenas.new.node_blocks
+        arenas.new.leaves arenas.new.leaf_blocks direct_bits (R.bits region.now - direct_bits)) }
+    ensures kept { OnOk result (KeepsRenewal arenas.old.nodes arenas.old.leaves words.now
+        stores.new.items (prefix_as prefix.now).bits direct_bits (R.bits region.now - direct_bits)
         (R.answers region.now)) }
-    ensures refused { IfErr result (λ e. MeetsNotRenewal nodes.old leaves.old words.now
-        (prefix_as prefix.now).bits direct_bits (R.bits region.now - direct_bits)
+    ensures met { OnOk result (MeetsRenewal arenas.old.nodes arenas.old.leaves words.now
+        arenas.new.nodes arenas.new.leaves (prefix_as prefix.now).bits direct_bits (R.bits
+        region.now - direct_bits) (R.answers region.now)) }
+    ensures refused { IfErr result (λ e. MeetsNotRenewal arenas.old.nodes arenas.old.leaves
+        words.now (prefix_as prefix.now).bits direct_bits (R.bits region.now - direct_bits)
         (R.answers region.now) e) }
-    ensures nodes_back { OnErr result (GivesAllBack blank nodes.old nodes.new
-        × (node_blocks.new ≡ node_blocks.old)) }
-    ensures leaves_back { OnErr result (GivesAllBack 0 leaves.old leaves.new
-        × (leaf_blocks.new ≡ leaf_blocks.old)) }
+    ensures nodes_back { OnErr result (GivesAllBack blank arenas.old.nodes arenas.new.nodes ×
+        (arenas.new.node_blocks ≡ arenas.old.node_blocks)) }
+    ensures leaves_back { OnErr result (GivesAllBack 0 arenas.old.leaves arenas.new.leaves ×
+        (arenas.new.leaf_blocks ≡ arenas.old.leaf_blocks)) }
     ensures no_stores { OnErr result (stores.new.items ≡ []) }
 {
-    let rebuilt = rebuild(
-        region,
-        prefix,
-        direct_bits,
-        words,
-        nodes,
-        node_blocks,
-        leaves,
-        leaf_blocks,
-        stores,
-    );
+    let rebuilt = rebuild(region, prefix, direct_bits, words, arenas, stores);
     match rebuilt {
         Ok(()) => Ok(()),
         Err(refusal) => {
-            node_blocks.cancel(nodes);
-            leaf_blocks.cancel(leaves);
+            arenas.node_blocks.cancel(&mut arenas.nodes);
+            arenas.leaf_blocks.cancel(&mut arenas.leaves);
             stores.clear();
             Err(refusal)
         }

@@ -1,12 +1,18 @@
 //! A trie that is changed one word at a time.
 
+ghost use Rattle.std.specs.Prelude.{◌≡◌, ℕ};
+ghost use Rattle.buddy_arena.specs.Space.{IsSized};
+ghost use Rattle.poptrie_set.specs.Rooms.{IsRest};
+
 use crate::reading::{At, visit};
 use crate::reasons::{NotReady, reason};
 use crate::rebuilding::rebuild_or_undo;
 use buddy_arena::{Arena, Blocks};
-use fib_addr::{Addr, Answers, Family, Hop, Prefix, PrefixRegion, Region, Steps};
-use path_copying::Store;
-use poptrie_build::{Found, HOP, Node, TrieFull, clear_all, empty_words, fill_all, key_of};
+use fib_addr::{Addr, Answers, Family, Prefix, PrefixRegion, Region, Steps};
+use path_copying::{Arenas, Store};
+use poptrie_build::{
+    DirectWord, Found, Needs, Node, TrieFull, clear_all, empty_words, fill_all, key_of,
+};
 use std::alloc::{AllocError, Global};
 use std::marker::Model;
 use std::sync::ledger::Ledger;
@@ -36,10 +42,7 @@ pub struct Pending {
 #[derive(Drop)]
 pub struct TrieSet {
     words: Vec<u32>,
-    nodes: Arena<Node>,
-    leaves: Arena<u16>,
-    node_blocks: Blocks,
-    leaf_blocks: Blocks,
+    arenas: Arenas,
     stores: Vec<Store>,
     made: usize,
     family: Family,
@@ -57,27 +60,36 @@ impl Model for TrieSet {
       family = l.family;
       direct_bits = l.direct_bits;
       words = l.words.items;
-      nodes = room_of l.nodes l.node_blocks;
-      leaves = room_of l.leaves l.leaf_blocks;
+      nodes = room_of l.arenas.nodes l.arenas.node_blocks;
+      leaves = room_of l.arenas.leaves l.arenas.leaf_blocks;
       pending = l.pending;
       stores = stores_of l.stores.items;
       made = l.made;
-      time = l.node_blocks.time;
+      time = l.arenas.node_blocks.time;
     } };
 
-    ghost invariant = { λ l. IsLive l.direct_bits l.words.items l.nodes l.leaves l.node_blocks
-        l.leaf_blocks l.pending l.stores.items l.made
+    ghost invariant = { λ l. IsLive l.direct_bits l.words.items l.arenas.nodes l.arenas.leaves l.arenas.node_blocks
+        l.arenas.leaf_blocks l.pending l.stores.items l.made
         × ShowsSome (record {
           family = l.family;
           direct_bits = l.direct_bits;
           words = l.words.items;
-          nodes = room_of l.nodes l.node_blocks;
-          leaves = room_of l.leaves l.leaf_blocks;
+          nodes = room_of l.arenas.nodes l.arenas.node_blocks;
+          leaves = room_of l.arenas.leaves l.arenas.leaf_blocks;
           pending = l.pending;
           stores = stores_of l.stores.items;
           made = l.made;
-          time = l.node_blocks.time;
+          time = l.arenas.node_blocks.time;
         }) };
+}
+
+/// How many places of an arena are out that the pending update didn't take and that aren't retired: those of the version before it.
+fn own_places<T: Copy>(arena: &Arena<T>, blocks: &Blocks) -> u64
+    requires sized { IsSized arena.now }
+    requires some { (n : ℕ) × IsRest n arena.now blocks.now }
+    ensures { (n : ℕ) → IsRest n arena.now blocks.now → result ≡ n }
+{
+    arena.places() - arena.free_total() - blocks.places_beside()
 }
 
 impl TrieSet {
@@ -90,12 +102,12 @@ impl TrieSet {
     ghost use Rattle.buddy_arena.specs.Space.{Space};
     ghost use Rattle.poptrie_build.specs.declared.node.Node.{Node};
     ghost use Rattle.poptrie_build.specs.Tries.{node_need, leaf_need, visits_of};
-    ghost use Rattle.poptrie_set.specs.Lives.{Seen, ShowsIn, HasSizesOf, IsTokenIn, IsTooMuchFor, KeepsBlocks};
+    ghost use Rattle.poptrie_set.specs.Lives.{Seen, ShowsIn, HasSizesOf, IsTokenIn, IsTooMuchFor, KeepsBlocks, AreNeedsOf};
     ghost use Rattle.poptrie_set.specs.Fits.{Reader, FitsIn, IsOldestOf, until};
     ghost use Rattle.poptrie_set.specs.Past.{PastIn};
     ghost use Rattle.poptrie_set.specs.Undone.{IsReadyFrom, IsAsBefore};
     ghost use Rattle.poptrie_set.specs.Cells.{KeepsCells};
-    ghost use Rattle.poptrie_set.specs.Reading.{ReadsOn, CanRead, LeadsIn, key_after};
+    ghost use Rattle.poptrie_set.specs.Reading.{ReadsOn, CanRead, LeadsIn, bits_after};
     ghost use Rattle.poptrie_set.specs.First.{StartsIn, published_in};
     ghost use Rattle.poptrie_set.specs.Prepares.{AgreeOutside, MergesSlots, StoresJust, GaveBack, AsksRun, AsksRunOut};
     ghost use Rattle.poptrie_set.specs.declared.trie_set.Oldest.TheVariants as Oldest;
@@ -129,10 +141,12 @@ impl TrieSet {
         let leaves = Arena::new(alloc, leaf_order, 0)?;
         Ok(TrieSet {
             words,
-            nodes,
-            leaves,
-            node_blocks: Blocks::new(alloc),
-            leaf_blocks: Blocks::new(alloc),
+            arenas: Arenas {
+                nodes,
+                node_blocks: Blocks::new(alloc),
+                leaves,
+                leaf_blocks: Blocks::new(alloc),
+            },
             stores: Vec::new(alloc),
             made: 0,
             family,
@@ -181,14 +195,14 @@ impl TrieSet {
             → IsTooMuchFor self.old L e) }
         ensures past { (ns ls : List ℕ) → PastIn self.old ns ls → PastIn self.new ns ls }
     {
-        self.node_blocks.clear();
-        self.leaf_blocks.clear();
+        self.arenas.node_blocks.clear();
+        self.arenas.leaf_blocks.clear();
         fill_all(
             region,
             self.direct_bits,
             &mut self.words,
-            &mut self.nodes,
-            &mut self.leaves,
+            &mut self.arenas.nodes,
+            &mut self.arenas.leaves,
         )
     }
 
@@ -218,11 +232,15 @@ impl TrieSet {
         ensures past { (ns ls : List ℕ) → PastIn self.old ns ls → PastIn self.new ns ls }
     {
         let since = match oldest {
-            Oldest::Nobody => self.node_blocks.time(),
+            Oldest::Nobody => self.arenas.node_blocks.time(),
             Oldest::Started { cursor, since } => since,
         };
-        self.node_blocks.release(&mut self.nodes, since);
-        self.leaf_blocks.release(&mut self.leaves, since);
+        self.arenas
+            .node_blocks
+            .release(&mut self.arenas.nodes, since);
+        self.arenas
+            .leaf_blocks
+            .release(&mut self.arenas.leaves, since);
     }
 
     /// Makes an update ready that changes the answers of a prefix's addresses at most: makes what has other answers anew beside all
@@ -276,10 +294,7 @@ impl TrieSet {
             prefix,
             self.direct_bits,
             &self.words,
-            &mut self.nodes,
-            &mut self.node_blocks,
-            &mut self.leaves,
-            &mut self.leaf_blocks,
+            &mut self.arenas,
             &mut self.stores,
         );
         match made {
@@ -291,8 +306,8 @@ impl TrieSet {
                 region,
                 self.direct_bits,
                 refusal,
-                &self.nodes,
-                &self.leaves,
+                &self.arenas.nodes,
+                &self.arenas.leaves,
             )),
         }
     }
@@ -304,12 +319,9 @@ impl TrieSet {
             → StartsIn result self.now (published_in self.now L M addr.now) addr.now }
     {
         let word = self.words[(key_of(addr) >> 1 >> (127 - self.direct_bits)) as usize];
-        if word >= HOP {
-            return At::Answer(Hop((word - HOP) as u16));
-        }
-        At::Node {
-            node: word,
-            stride: 0,
+        match DirectWord::read(word) {
+            DirectWord::Hop(hop) => At::Answer(hop),
+            DirectWord::Node(node) => At::Node { node, stride: 0 },
         }
     }
 
@@ -317,15 +329,15 @@ impl TrieSet {
     pub fn next(&self, node: u32, stride: u8, addr: &Addr) -> At
         requires stride { self.now.direct_bits + 6 * stride < 128 }
         requires can { CanRead self.now.nodes.space.cells self.now.leaves.space.cells node
-            (key_after self.now.direct_bits stride addr.now) }
+            (bits_after self.now.direct_bits stride addr.now) }
         ensures { (left h : ℕ) (N L : ℕ → Bool)
             → ReadsOn left self.now.nodes.space.cells N self.now.leaves.space.cells L node
-            (key_after self.now.direct_bits stride addr.now) h
+            (bits_after self.now.direct_bits stride addr.now) h
             → LeadsIn result left self.now.nodes.space.cells N self.now.leaves.space.cells L
             self.now.direct_bits stride addr.now h }
     {
         let key = key_of(addr) << (self.direct_bits + 6 * stride);
-        visit(&self.nodes, &self.leaves, node, stride, key)
+        visit(&self.arenas.nodes, &self.arenas.leaves, node, stride, key)
     }
 
     /// The answer that is published to an address, with a step for each node that is visited: all the reads of a lookup without a
@@ -353,11 +365,22 @@ impl TrieSet {
         }
     }
 
+    /// The needs of the trie of the table before the pending update, or of the table if none is pending. They are what is out and
+    /// neither taken by the update nor retired, and aren't counted anew.
+    pub fn needs(&self) -> Needs
+        ensures { (L M : Entries) → ShowsIn self.now L M → AreNeedsOf result self.now L }
+    {
+        Needs {
+            nodes: own_places(&self.arenas.nodes, &self.arenas.node_blocks),
+            leaves: own_places(&self.arenas.leaves, &self.arenas.leaf_blocks),
+        }
+    }
+
     /// The number of ends so far.
     pub fn time(&self) -> u64
         ensures { result ≡ self.now.time }
     {
-        self.node_blocks.time()
+        self.arenas.node_blocks.time()
     }
 
     /// Whether an update is pending.
@@ -371,8 +394,8 @@ impl TrieSet {
     pub fn arenas_law(&self)
         ensures { KeepsBlocks self.now }
     {
-        self.node_blocks.retired_law();
-        self.leaf_blocks.retired_law();
+        self.arenas.node_blocks.retired_law();
+        self.arenas.leaf_blocks.retired_law();
     }
 
     /// Makes the next store of the pending update; false where none is left.
@@ -427,8 +450,8 @@ impl TrieSet {
             return Err(pending);
         }
         let Pending { made } = pending;
-        self.node_blocks.end();
-        self.leaf_blocks.end();
+        self.arenas.node_blocks.end();
+        self.arenas.leaf_blocks.end();
         self.stores.clear();
         self.made = 0;
         self.pending = false;
@@ -450,8 +473,8 @@ impl TrieSet {
         ensures past { (n l : ℕ) (ns ls : List ℕ) → PastIn self.old ns ls
             → PastIn self.new (ns ++ n ∷ []) (ls ++ l ∷ []) }
     {
-        self.node_blocks.end();
-        self.leaf_blocks.end();
+        self.arenas.node_blocks.end();
+        self.arenas.leaf_blocks.end();
     }
 
     /// Gives all back: the trie answers none everywhere. No lookup may be open in it, for what they read is gone.
@@ -461,9 +484,13 @@ impl TrieSet {
         ensures retired { (self.new.nodes.retired ≡ []) × (self.new.leaves.retired ≡ []) }
         ensures none { ShowsIn self.new [] [] }
     {
-        clear_all(&mut self.words, &mut self.nodes, &mut self.leaves);
-        self.node_blocks.clear();
-        self.leaf_blocks.clear();
+        clear_all(
+            &mut self.words,
+            &mut self.arenas.nodes,
+            &mut self.arenas.leaves,
+        );
+        self.arenas.node_blocks.clear();
+        self.arenas.leaf_blocks.clear();
         self.stores.clear();
         self.made = 0;
         self.pending = false;
@@ -500,8 +527,8 @@ impl TrieSet {
             return Err(pending);
         }
         let Pending { made } = pending;
-        self.node_blocks.cancel(&mut self.nodes);
-        self.leaf_blocks.cancel(&mut self.leaves);
+        self.arenas.node_blocks.cancel(&mut self.arenas.nodes);
+        self.arenas.leaf_blocks.cancel(&mut self.arenas.leaves);
         self.stores.clear();
         self.pending = false;
         Ok(())

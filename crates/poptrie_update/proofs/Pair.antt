@@ -100,7 +100,7 @@ same_cells e cells N M h = record { inside = h; same = λ i o. refl; long = refl
 pub reads_out : (s : Seen) (r : Reader) → ReadsIn s r → ReadsOut s r
 reads_out s r x = (
   x.0,
-  reads_again r.left s.nodes.space.cells s.nodes.space.cells _ _ s.leaves.space.cells s.leaves.space.cells _ _ r.node r.key r.answer
+  reads_again r.left s.nodes.space.cells s.nodes.space.cells _ _ s.leaves.space.cells s.leaves.space.cells _ _ r.node r.bits r.answer
       (same_cells blank s.nodes.space.cells (safe s.nodes s.made r.since) (is_out s.nodes.space.free) (λ i z. safe_out s.nodes s.made r.since i z))
       (same_cells 0 s.leaves.space.cells (safe s.leaves s.made r.since) (is_out s.leaves.space.free) (λ i z. safe_out s.leaves s.made r.since i z)) x.1,
 )
@@ -109,8 +109,8 @@ reads_out s r x = (
 pub ticked_out : (o q : Seen) (r : Reader) → q.nodes ≡ o.nodes → q.leaves ≡ o.leaves → o.time ≤ q.time → ReadsOut o r → ReadsOut q r
 ticked_out o q r en el et x = (
   omega (arith, x.0),
-  subst (λ (n : Room Node). Rattle.poptrie_set.specs.Reading.ReadsOn r.left n.space.cells (is_out n.space.free) q.leaves.space.cells (is_out q.leaves.space.free) r.node r.key r.answer) (sym en)
-      (subst (λ (n : Room ℕ). Rattle.poptrie_set.specs.Reading.ReadsOn r.left o.nodes.space.cells (is_out o.nodes.space.free) n.space.cells (is_out n.space.free) r.node r.key r.answer) (sym el) x.1),
+  subst (λ (n : Room Node). Rattle.poptrie_set.specs.Reading.ReadsOn r.left n.space.cells (is_out n.space.free) q.leaves.space.cells (is_out q.leaves.space.free) r.node r.bits r.answer) (sym en)
+      (subst (λ (n : Room ℕ). Rattle.poptrie_set.specs.Reading.ReadsOn r.left o.nodes.space.cells (is_out o.nodes.space.free) n.space.cells (is_out n.space.free) r.node r.bits r.answer) (sym el) x.1),
 )
 
 pub ticked_other : (state : Other) (o q : Seen) (r : Reader) → is_selecting state ≡ false → q.nodes ≡ o.nodes → q.leaves ≡ o.leaves → o.time ≤ q.time → ReadsOther state o r → ReadsOther state q r

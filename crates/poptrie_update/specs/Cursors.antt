@@ -6,7 +6,7 @@ use Rattle.fib_addr.specs.Views.{addr_as}
 use Rattle.table_model.specs.Entries.{Entries, match_in}
 use Rattle.poptrie_build.specs.Strides.{strides}
 use Rattle.poptrie_build.specs.Tries.{rest, visits_of}
-use Rattle.poptrie_set.specs.Reading.{key_after}
+use Rattle.poptrie_set.specs.Reading.{bits_after}
 use Rattle.poptrie_set.specs.declared.trie_set.Oldest.{Oldest}
 use Rattle.poptrie_set.specs.declared.trie_set.Oldest.TheVariants as oldest
 use Rattle.poptrie_update.specs.Lives.{Living, HasShapeOf}
@@ -43,7 +43,7 @@ with_due n d due m = cond (nat_eq m n) d (due m)
 -- those that are past their first go, s being the direct bits
 abbrev pub open_at : ℕ → Addr → ℕ → Stage → Due → List Open
 open_at s a since stage.Word d = []
-open_at s a since (stage.Node i set t) d = record { set = set; reader = record { since = since; node = i; key = key_after s t a; answer = d.answer; left = d.left } } ∷ []
+open_at s a since (stage.Node i set t) d = record { set = set; reader = record { since = since; node = i; bits = bits_after s t a; answer = d.answer; left = d.left } } ∷ []
 
 abbrev pub open_of : ℕ → Option Lookup → Due → List Open
 open_of s None d = []

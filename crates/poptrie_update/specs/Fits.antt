@@ -18,7 +18,7 @@ pub record Open : Type 0 where
 
 -- reading on in a set of which nothing is given back before the lookup ends, or written, ends as it is due
 abbrev pub ReadsOut : Seen → Reader → Type 0
-ReadsOut o r = (r.since ≤ o.time) × ReadsOn r.left o.nodes.space.cells (is_out o.nodes.space.free) o.leaves.space.cells (is_out o.leaves.space.free) r.node r.key r.answer
+ReadsOut o r = (r.since ≤ o.time) × ReadsOn r.left o.nodes.space.cells (is_out o.nodes.space.free) o.leaves.space.cells (is_out o.leaves.space.free) r.node r.bits r.answer
 
 -- in the set that isn't selected: it was replaced, at an end after the lookup's start if that end is over; a lookup is in no other
 abbrev pub ReadsOther : Other → Seen → Reader → Type 0

@@ -94,6 +94,13 @@ ShowsBy other.Replaced s o L M = ShowsIn s M M
 abbrev pub Shows : Living → Entries → Entries → Type 0
 Shows l L M = ShowsBy l.state l.selected l.other L M
 
+-- of these two the present version's entries: the first, or, where the selector was stored, the second
+abbrev pub present_by : Other → Entries → Entries → Entries
+present_by other.Free L M = L
+present_by (other.Retired end) L M = L
+present_by other.Built L M = L
+present_by other.Replaced L M = M
+
 -- the list has for each end so far the needs of the version before it, and what is retired at that end in the selected set takes no
 -- more places
 abbrev pub Past : Living → List ℕ → List ℕ → Type 0

@@ -8,7 +8,7 @@ use Rattle.poptrie_build.specs.declared.node.Node.{Node}
 use Rattle.poptrie_set.specs.Rooms.{safe}
 use Rattle.poptrie_set.specs.Lives.{Seen, stores_cover}
 use Rattle.poptrie_set.specs.First.{slot_of}
-use Rattle.poptrie_set.specs.Reading.{ReadsOn, key_after}
+use Rattle.poptrie_set.specs.Reading.{ReadsOn, bits_after}
 use Rattle.poptrie_set.specs.declared.reading.At.{At as Read}
 use Rattle.poptrie_set.specs.declared.reading.At.TheVariants as read
 use Rattle.poptrie_update.specs.Lives.{Living, Shows}
@@ -39,11 +39,11 @@ Starts (at.Answer h) l E a = (h.0 ≡ match_in E (addr_as a)) × (visits_of l.se
 Starts (at.Node i set t) l E a =
     (set ≡ l.number)
     × (t ≡ 0)
-    × ((since : ℕ) → ReadsOn (visits_of l.selected.direct_bits E (addr_as a)) l.selected.nodes.space.cells (safe l.selected.nodes l.selected.made since) l.selected.leaves.space.cells (safe l.selected.leaves l.selected.made since) i (key_after l.selected.direct_bits 0 a) (match_in E (addr_as a)))
+    × ((since : ℕ) → ReadsOn (visits_of l.selected.direct_bits E (addr_as a)) l.selected.nodes.space.cells (safe l.selected.nodes l.selected.made since) l.selected.leaves.space.cells (safe l.selected.leaves l.selected.made since) i (bits_after l.selected.direct_bits 0 a) (match_in E (addr_as a)))
 
 -- what was read is the answer, or leads on to a node of the same set and the next stride, from which one node less is visited
 abbrev pub Leads : At → ℕ → ℕ → List Node → (ℕ → Bool) → List ℕ → (ℕ → Bool) → ℕ → ℕ → Addr → ℕ → Type 0
-Leads (at.Node i set t) left from nodes N leaves L s stride a h = (set ≡ from) × (t ≡ suc stride) × ((before : ℕ) × (left ≡ suc before) × ReadsOn before nodes N leaves L i (key_after s t a) h)
+Leads (at.Node i set t) left from nodes N leaves L s stride a h = (set ≡ from) × (t ≡ suc stride) × ((before : ℕ) × (left ≡ suc before) × ReadsOn before nodes N leaves L i (bits_after s t a) h)
 Leads (at.Answer g) left from nodes N leaves L s stride a h = (left ≡ 1) × (g.0 ≡ h)
 
 -- the same place, in the set of this number

@@ -3,7 +3,7 @@ use Rattle.std.specs.Prelude.{◌≡◌, ℕ, ◌+◌, ◌*◌, ◌<◌, ◌≤�
 use Rattle.fib_addr.specs.declared.addr.Addr.{Addr}
 use Rattle.fib_addr.specs.declared.entry.Hop.{Hop}
 use Rattle.table_model.specs.Entries.{Entries}
-use Rattle.poptrie_set.specs.Reading.{ReadsOn, CanRead, key_after}
+use Rattle.poptrie_set.specs.Reading.{ReadsOn, CanRead, bits_after}
 use Rattle.poptrie_set.specs.declared.trie_set.Oldest.{Oldest}
 use Rattle.poptrie_set.specs.declared.trie_set.Oldest.TheVariants as oldest
 use Rattle.poptrie_update.specs.Lives.{Living, Shows, numbered_set}
@@ -20,14 +20,14 @@ abbrev pub CanGo : Living → Addr → Stage → Type 0
 CanGo l a stage.Word = Unit {0}
 CanGo l a (stage.Node i set t) =
     (l.selected.direct_bits + 6 * t < 128)
-    × CanRead (numbered_set l set).nodes.space.cells (numbered_set l set).leaves.space.cells i (key_after l.selected.direct_bits t a)
+    × CanRead (numbered_set l set).nodes.space.cells (numbered_set l set).leaves.space.cells i (bits_after l.selected.direct_bits t a)
 
 -- what was read next: what is published to the address, or what the node leads to
 abbrev pub IsStageRead : At → Living → Addr → Stage → Type 0
 IsStageRead r l a stage.Word = (L M : Entries) → Shows l L M → Starts r l (published_entries l L M a) a
 IsStageRead r l a (stage.Node i set t) =
     (left h : ℕ) (N L : ℕ → Bool)
-    → ReadsOn left (numbered_set l set).nodes.space.cells N (numbered_set l set).leaves.space.cells L i (key_after l.selected.direct_bits t a) h
+    → ReadsOn left (numbered_set l set).nodes.space.cells N (numbered_set l set).leaves.space.cells L i (bits_after l.selected.direct_bits t a) h
     → Leads r left set (numbered_set l set).nodes.space.cells N (numbered_set l set).leaves.space.cells L l.selected.direct_bits t a h
 
 -- an answer closes the lookup, and a node is where it stands then

@@ -5,7 +5,7 @@ ghost use Rattle.poptrie_update.specs.Reads.{IsInSet};
 
 use crate::pending::{NotReady, Pending, Stores};
 use fib_addr::{Addr, Answers, Family, Hop, Prefix, PrefixRegion, Region, Steps};
-use poptrie_build::{Found, TrieFull};
+use poptrie_build::{Found, Needs, TrieFull};
 use poptrie_set::{At as Read, NotReady as NotBeside, Oldest, TrieSet};
 use std::alloc::{AllocError, Global};
 use std::marker::Model;
@@ -95,12 +95,12 @@ impl Live {
     ghost use Rattle.buddy_arena.specs.Space.{Space};
     ghost use Rattle.poptrie_build.specs.declared.node.Node.{Node};
     ghost use Rattle.poptrie_build.specs.Tries.{node_need, leaf_need, visits_of};
-    ghost use Rattle.poptrie_set.specs.Lives.{IsTooMuchFor};
+    ghost use Rattle.poptrie_set.specs.Lives.{IsTooMuchFor, AreNeedsOf};
     ghost use Rattle.poptrie_set.specs.Fits.{until};
-    ghost use Rattle.poptrie_set.specs.Reading.{ReadsOn, CanRead, key_after};
+    ghost use Rattle.poptrie_set.specs.Reading.{ReadsOn, CanRead, bits_after};
     ghost use Rattle.poptrie_set.specs.Prepares.{AgreeOutside, MergesSlots, GaveBack, AsksRunOut};
     ghost use Rattle.poptrie_set.specs.Lives.{ShowsIn};
-    ghost use Rattle.poptrie_update.specs.Lives.{Living, Shows, HasShapeOf, is_pending, stores_left, made_of, numbered_set, Past, IsFree, KeepsStores, freed, retired_at_end, KeepsBothSets, IsSetPair};
+    ghost use Rattle.poptrie_update.specs.Lives.{Living, Shows, present_by, HasShapeOf, is_pending, stores_left, made_of, numbered_set, Past, IsFree, KeepsStores, freed, retired_at_end, KeepsBothSets, IsSetPair};
     ghost use Rattle.poptrie_update.specs.Pendings.{IsTokenOf, selects};
     ghost use Rattle.poptrie_update.specs.Fits.{Open, Fits, IsOldest};
     ghost use Rattle.poptrie_update.specs.Reads.{Starts, published_entries, Leads};
@@ -428,11 +428,11 @@ impl Live {
         requires stride { self.now.selected.direct_bits + 6 * stride < 128 }
         requires can { CanRead (numbered_set self.now set).nodes.space.cells
             (numbered_set self.now set).leaves.space.cells node
-            (key_after self.now.selected.direct_bits stride addr.now) }
+            (bits_after self.now.selected.direct_bits stride addr.now) }
         ensures { (left h : ℕ) (N L : ℕ → Bool)
             → ReadsOn left (numbered_set self.now set).nodes.space.cells N
             (numbered_set self.now set).leaves.space.cells L node
-            (key_after self.now.selected.direct_bits stride addr.now) h
+            (bits_after self.now.selected.direct_bits stride addr.now) h
             → Leads result left set (numbered_set self.now set).nodes.space.cells N
             (numbered_set self.now set).leaves.space.cells L self.now.selected.direct_bits stride
             addr.now h }
@@ -457,6 +457,15 @@ impl Live {
         ensures steps { steps.new ≡ steps.old + result.visits }
     {
         self.selected.lookup(addr, steps)
+    }
+
+    /// What the trie of the present version needs: of the table before the pending update, or of the one after it once the selector
+    /// is stored. Both numbers are kept, and not counted anew.
+    pub fn needs(&self) -> Needs
+        ensures { (L M : Entries) → Shows self.now L M
+            → AreNeedsOf result self.now.selected (present_by self.now.state L M) }
+    {
+        self.selected.needs()
     }
 
     /// The number of ends so far.

@@ -1,4 +1,6 @@
-use Rattle.std.proofs.Common.{◌≡◌, ◌∙◌, ◌*◌, ap, arith}
+use Rattle.std.proofs.Common.{◌≡◌, ◌∙◌, ◌*◌, ◌^◌, ◌≤◌, ℕ, ap, sym, arith, inl, inr}
+use Rattle.std.proofs.Math.Pow.{pow-lt}
+use Rattle.std.proofs.lemmas.Bool.{cases_lt}
 use Rattle.buddy_arena.specs.Powers.{up}
 use Rattle.buddy_arena.specs.Places.{is_out, count_free}
 use Rattle.buddy_arena.proofs.Placing.{taken, still, none_taken, none_left}
@@ -21,3 +23,16 @@ returns-then-count-eq0-clause-aligned g c = (0, let e : 0 ≡ 0 * up c.args.coun
 
 pub returns-in-Ok-clause-aligned : goal.returns-in-Ok-clause-aligned
 returns-in-Ok-clause-aligned g c = (c.in-Ok.ensures.out.aligned.0, c.in-Ok.ensures.out.aligned.1 ∙ ap (λ n. c.in-Ok.ensures.out.aligned.0 * n) c.order_for.ensures.size)
+
+pub returns-in-Err-clause-none : goal.returns-in-Err-clause-none
+returns-in-Err-clause-none g c = (
+  omega (arith, c.if-count-eq0.false),
+  λ k e i l. c.in-Err.ensures.full.1 i (omega (arith, l, least c.order_for.result k (c.order_for.ensures.size ∙ sym e))),
+)
+  where
+    least : (o j : ℕ) → 2 ^ o ≡ 2 ^ j → o ≤ j
+    least o j e =
+        elim (cases_lt j o) [
+          | inl h ↦ absurd (omega (arith, e, pow-lt {i = j} {j = o} h))
+          | inr h ↦ h
+        ]

@@ -1,5 +1,5 @@
 use borrow.Author.Tests.{clash}
-use Rattle.std.proofs.Common.{rules, ◌≡◌, ◌∙◌, ◌+◌, ℕ, Some, None, sym, ap, subst, arith, refl}
+use Rattle.std.proofs.Common.{rules, ◌≡◌, ◌∙◌, ℕ, Some, None, sym, ap, subst, arith, refl}
 use Rattle.poptrie_build.specs.Strides.{slots, slot}
 use Rattle.poptrie_build.specs.Making.{slot_kind}
 use Rattle.poptrie_build.specs.Build.{StandsIn}

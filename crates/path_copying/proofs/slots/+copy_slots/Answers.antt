@@ -30,13 +30,13 @@ returns-in_ok-reserve-clause-stores g t c =
 
 pub returns-in_ok-reserve-clause-replaces : goal.returns-in_ok-reserve-clause-replaces
 returns-in_ok-reserve-clause-replaces g t c =
-    slot_stored c.args.nodes.now c.copy_word.new.nodes c.args.node_blocks.now c.copy_word.new.node_blocks c.args.leaves.now c.copy_word.new.leaves c.args.leaf_blocks.now c.copy_word.new.leaf_blocks c.args.words.now c.args.stores.now.items c.push_reserved.new.self.items c.args.first c.in_ok-new.new (g.R.Region.bits c.args.region.now) (g.R.Region.answers c.args.region.now)
+    slot_stored c.args.arenas.now.nodes c.copy_word.new.arenas.nodes c.args.arenas.now.node_blocks c.copy_word.new.arenas.node_blocks c.args.arenas.now.leaves c.copy_word.new.arenas.leaves c.args.arenas.now.leaf_blocks c.copy_word.new.arenas.leaf_blocks c.args.words.now c.args.stores.now.items c.push_reserved.new.self.items c.args.first c.in_ok-new.new (g.R.Region.bits c.args.region.now) (g.R.Region.answers c.args.region.now)
     c.args.depth (g.R.Region.bits c.args.region.now - c.args.depth) c.if-depth-eq0.true (omega (arith, c.if-depth-eq0.true)) c.requires.stores (c.push_reserved.ensures.items ∙ ap (λ (x : List Store). x ++ record { slot = c.args.first; word = c.in_ok-new.new } ∷ []) c.reserve.ensures.items)
     c.copy_word.ensures.nodes.keeps c.copy_word.ensures.leaves.keeps c.in_ok-new.ensures.replaces
 
 pub returns-else-new-word-clause-replaces : goal.returns-else-new-word-clause-replaces
 returns-else-new-word-clause-replaces g t c =
-    slot_same c.args.nodes.now c.copy_word.new.nodes c.args.node_blocks.now c.copy_word.new.node_blocks c.args.leaves.now c.copy_word.new.leaves c.args.leaf_blocks.now c.copy_word.new.leaf_blocks c.args.words.now c.args.stores.now.items c.args.stores.now.items c.args.first c.in_ok-new.new (g.R.Region.bits c.args.region.now) (g.R.Region.answers c.args.region.now)
+    slot_same c.args.arenas.now.nodes c.copy_word.new.arenas.nodes c.args.arenas.now.node_blocks c.copy_word.new.arenas.node_blocks c.args.arenas.now.leaves c.copy_word.new.arenas.leaves c.args.arenas.now.leaf_blocks c.copy_word.new.arenas.leaf_blocks c.args.words.now c.args.stores.now.items c.args.stores.now.items c.args.first c.in_ok-new.new (g.R.Region.bits c.args.region.now) (g.R.Region.answers c.args.region.now)
     c.args.depth (g.R.Region.bits c.args.region.now - c.args.depth) c.if-depth-eq0.true (omega (arith, c.if-depth-eq0.true)) c.requires.stores refl c.if-new-word.false
     c.copy_word.ensures.nodes.keeps c.copy_word.ensures.leaves.keeps c.in_ok-new.ensures.replaces
 
@@ -50,7 +50,7 @@ pub returns-clause-replaces : goal.returns-clause-replaces
 returns-clause-replaces g t c =
     let n = next_is c.args.first c.args.depth c.requires.shallow in
     on_ok c.copy_slots-2.result c.copy_slots-2.ensures.replaces
-    (λ r. halves_copied c.args.nodes.now c.copy_slots.new.nodes c.copy_slots-2.new.nodes c.args.node_blocks.now c.copy_slots.new.node_blocks c.copy_slots-2.new.node_blocks c.args.leaves.now c.copy_slots.new.leaves c.copy_slots-2.new.leaves c.args.leaf_blocks.now c.copy_slots.new.leaf_blocks c.copy_slots-2.new.leaf_blocks
+    (λ r. halves_copied c.args.arenas.now.nodes c.copy_slots.new.arenas.nodes c.copy_slots-2.new.arenas.nodes c.args.arenas.now.node_blocks c.copy_slots.new.arenas.node_blocks c.copy_slots-2.new.arenas.node_blocks c.args.arenas.now.leaves c.copy_slots.new.arenas.leaves c.copy_slots-2.new.arenas.leaves c.args.arenas.now.leaf_blocks c.copy_slots.new.arenas.leaf_blocks c.copy_slots-2.new.arenas.leaf_blocks
     (stored c.args.stores.now.items c.args.words.now) (stored c.copy_slots.new.stores.items c.args.words.now) (stored c.copy_slots-2.new.stores.items c.args.words.now) c.args.first (c.args.first + 1 * 2 ^ (c.args.depth - 1) % 4294967296) c.args.depth (c.args.depth - 1)
     (g.R.Region.bits c.args.region.now - c.args.depth) (g.R.Region.bits c.half.result - (c.args.depth - 1)) (g.R.Region.bits c.half-2.result - (c.args.depth - 1)) (g.R.Region.answers c.args.region.now) (g.R.Region.answers c.half.result) (g.R.Region.answers c.half-2.result)
     (omega (arith, c.if-depth-eq0.false)) n (omega (arith, c.half.ensures.bits, c.if-depth-eq0.false)) (omega (arith, c.half-2.ensures.bits, c.if-depth-eq0.false)) c.half.ensures.answers c.half-2.ensures.answers c.in_ok-copy_slots.ensures.replaces r)
@@ -93,7 +93,7 @@ copy_slots-requires g t c κs within =
                         c.requires.nodes_time,
                         (
                           c.requires.leaves_time,
-                          ((λ v l m. subst (λ (n : ℕ). IsWord c.args.nodes.now c.args.leaves.now (slice_index c.args.words.now v) n) (omega (arith, c.if-depth-eq0.false, c.requires.depth)) (c.requires.words v l (omega (arith, m, b)))), c.requires.stores),
+                          ((λ v l m. subst (λ (n : ℕ). IsWord c.args.arenas.now.nodes c.args.arenas.now.leaves (slice_index c.args.words.now v) n) (omega (arith, c.if-depth-eq0.false, c.requires.depth)) (c.requires.words v l (omega (arith, m, b)))), c.requires.stores),
                         ),
                       ),
                     ),
@@ -107,10 +107,10 @@ copy_slots-requires g t c κs within =
     )
 
 pub returns-clause-nodes : goal.returns-clause-nodes
-returns-clause-nodes g t c = gains_then blank c.args.nodes.now c.copy_slots.new.nodes c.copy_slots-2.new.nodes c.args.node_blocks.now c.copy_slots.new.node_blocks c.copy_slots-2.new.node_blocks c.copy_slots.ensures.nodes c.copy_slots-2.ensures.nodes
+returns-clause-nodes g t c = gains_then blank c.args.arenas.now.nodes c.copy_slots.new.arenas.nodes c.copy_slots-2.new.arenas.nodes c.args.arenas.now.node_blocks c.copy_slots.new.arenas.node_blocks c.copy_slots-2.new.arenas.node_blocks c.copy_slots.ensures.nodes c.copy_slots-2.ensures.nodes
 
 pub returns-clause-leaves : goal.returns-clause-leaves
-returns-clause-leaves g t c = gains_then 0 c.args.leaves.now c.copy_slots.new.leaves c.copy_slots-2.new.leaves c.args.leaf_blocks.now c.copy_slots.new.leaf_blocks c.copy_slots-2.new.leaf_blocks c.copy_slots.ensures.leaves c.copy_slots-2.ensures.leaves
+returns-clause-leaves g t c = gains_then 0 c.args.arenas.now.leaves c.copy_slots.new.arenas.leaves c.copy_slots-2.new.arenas.leaves c.args.arenas.now.leaf_blocks c.copy_slots.new.arenas.leaf_blocks c.copy_slots-2.new.arenas.leaf_blocks c.copy_slots.ensures.leaves c.copy_slots-2.ensures.leaves
 
 pub copy_slots-requires-2 : goal.copy_slots-requires-2
 copy_slots-requires-2 g t c κs within =
@@ -139,7 +139,7 @@ copy_slots-requires-2 g t c κs within =
                         (
                           omega (arith, c.copy_slots.ensures.leaves.time, c.requires.leaves_time),
                           (
-                            (λ v l m. word_gained c.args.nodes.now c.copy_slots.new.nodes c.args.node_blocks.now c.copy_slots.new.node_blocks c.args.leaves.now c.copy_slots.new.leaves c.args.leaf_blocks.now c.copy_slots.new.leaf_blocks (slice_index c.args.words.now v) (c.args.bits - c.args.depth) (c.args.bits - 1 - (c.args.depth - 1)) (omega (arith, c.if-depth-eq0.false, c.requires.depth)) c.copy_slots.ensures.nodes c.copy_slots.ensures.leaves
+                            (λ v l m. word_gained c.args.arenas.now.nodes c.copy_slots.new.arenas.nodes c.args.arenas.now.node_blocks c.copy_slots.new.arenas.node_blocks c.args.arenas.now.leaves c.copy_slots.new.arenas.leaves c.args.arenas.now.leaf_blocks c.copy_slots.new.arenas.leaf_blocks (slice_index c.args.words.now v) (c.args.bits - c.args.depth) (c.args.bits - 1 - (c.args.depth - 1)) (omega (arith, c.if-depth-eq0.false, c.requires.depth)) c.copy_slots.ensures.nodes c.copy_slots.ensures.leaves
                                 (c.requires.words v (omega (arith, l, n)) (omega (arith, m, b, n)))),
                             stores_more c.args.words.now c.copy_slots.new.stores.items (c.args.first + 2 ^ (c.args.depth - 1)) (c.args.first + 1 * 2 ^ (c.args.depth - 1) % 4294967296) (omega (arith, n)) c.in_ok-copy_slots.ensures.stores,
                           ),
@@ -157,7 +157,7 @@ copy_slots-requires-2 g t c κs within =
 
 pub returns-in_err-new-clause-refused : goal.returns-in_err-new-clause-refused
 returns-in_err-new-clause-refused g t c =
-    let out = slot_refused c.args.nodes.now c.args.leaves.now c.args.words.now c.args.first c.args.depth (g.R.Region.bits c.args.region.now) (g.R.Region.bits c.args.region.now - c.args.depth) (g.R.Region.answers c.args.region.now) c.in_err-new.field-0.0 c.if-depth-eq0.true (omega (arith, c.if-depth-eq0.true)) c.in_err-new.ensures.refused in
+    let out = slot_refused c.args.arenas.now.nodes c.args.arenas.now.leaves c.args.words.now c.args.first c.args.depth (g.R.Region.bits c.args.region.now) (g.R.Region.bits c.args.region.now - c.args.depth) (g.R.Region.answers c.args.region.now) c.in_err-new.field-0.0 c.if-depth-eq0.true (omega (arith, c.if-depth-eq0.true)) c.in_err-new.ensures.refused in
     let p = err_from_is_err_and c.from_residual.result c.from_residual.ensures.1 in
     rw (p.1, p.2) out
 
@@ -167,14 +167,14 @@ returns-in_err-reserve-clause-refused g t c =
     rw (p.1, p.2) (λ k h few s. tt)
 
 pub returns-in_ok-reserve-clause-met : goal.returns-in_ok-reserve-clause-met
-returns-in_ok-reserve-clause-met g t c = slot_met c.args.nodes.now c.copy_word.new.nodes c.args.leaves.now c.copy_word.new.leaves c.args.words.now c.args.first c.args.depth (g.R.Region.bits c.args.region.now) (g.R.Region.bits c.args.region.now - c.args.depth) (g.R.Region.answers c.args.region.now) c.if-depth-eq0.true (omega (arith, c.if-depth-eq0.true)) c.in_ok-new.ensures.met
+returns-in_ok-reserve-clause-met g t c = slot_met c.args.arenas.now.nodes c.copy_word.new.arenas.nodes c.args.arenas.now.leaves c.copy_word.new.arenas.leaves c.args.words.now c.args.first c.args.depth (g.R.Region.bits c.args.region.now) (g.R.Region.bits c.args.region.now - c.args.depth) (g.R.Region.answers c.args.region.now) c.if-depth-eq0.true (omega (arith, c.if-depth-eq0.true)) c.in_ok-new.ensures.met
 
 pub returns-else-new-word-clause-met : goal.returns-else-new-word-clause-met
-returns-else-new-word-clause-met g t c = slot_met c.args.nodes.now c.copy_word.new.nodes c.args.leaves.now c.copy_word.new.leaves c.args.words.now c.args.first c.args.depth (g.R.Region.bits c.args.region.now) (g.R.Region.bits c.args.region.now - c.args.depth) (g.R.Region.answers c.args.region.now) c.if-depth-eq0.true (omega (arith, c.if-depth-eq0.true)) c.in_ok-new.ensures.met
+returns-else-new-word-clause-met g t c = slot_met c.args.arenas.now.nodes c.copy_word.new.arenas.nodes c.args.arenas.now.leaves c.copy_word.new.arenas.leaves c.args.words.now c.args.first c.args.depth (g.R.Region.bits c.args.region.now) (g.R.Region.bits c.args.region.now - c.args.depth) (g.R.Region.answers c.args.region.now) c.if-depth-eq0.true (omega (arith, c.if-depth-eq0.true)) c.in_ok-new.ensures.met
 
 pub returns-in_err-copy_slots-clause-refused : goal.returns-in_err-copy_slots-clause-refused
 returns-in_err-copy_slots-clause-refused g t c =
-    let out = low_refused c.args.nodes.now c.args.nodes.now c.args.leaves.now c.args.leaves.now c.args.words.now c.args.first (c.args.first + 2 ^ (c.args.depth - 1)) c.args.depth (c.args.depth - 1)
+    let out = low_refused c.args.arenas.now.nodes c.args.arenas.now.nodes c.args.arenas.now.leaves c.args.arenas.now.leaves c.args.words.now c.args.first (c.args.first + 2 ^ (c.args.depth - 1)) c.args.depth (c.args.depth - 1)
     (g.R.Region.bits c.args.region.now - c.args.depth) (g.R.Region.bits c.half.result - (c.args.depth - 1)) (g.R.Region.bits c.args.region.now - c.args.depth) (g.R.Region.answers c.args.region.now) (g.R.Region.answers c.half.result) (side true (g.R.Region.answers c.args.region.now))
     (omega (arith, c.if-depth-eq0.false)) refl (omega (arith, c.half.ensures.bits, c.if-depth-eq0.false)) refl c.half.ensures.answers refl c.in_err-copy_slots.field-0.0 c.in_err-copy_slots.ensures.refused in
     let p = err_from_is_err_and c.from_residual-in_err-copy_slots.result c.from_residual-in_err-copy_slots.ensures.1 in
@@ -184,36 +184,36 @@ pub returns-clause-met : goal.returns-clause-met
 returns-clause-met g t c =
     let n = next_is c.args.first c.args.depth c.requires.shallow in
     on_ok c.copy_slots-2.result c.copy_slots-2.ensures.met
-    (λ m. halves_met c.args.nodes.now c.copy_slots.new.nodes c.args.leaves.now c.copy_slots.new.leaves c.args.words.now c.args.first (c.args.first + 1 * 2 ^ (c.args.depth - 1) % 4294967296) c.args.depth (c.args.depth - 1)
+    (λ m. halves_met c.args.arenas.now.nodes c.copy_slots.new.arenas.nodes c.args.arenas.now.leaves c.copy_slots.new.arenas.leaves c.args.words.now c.args.first (c.args.first + 1 * 2 ^ (c.args.depth - 1) % 4294967296) c.args.depth (c.args.depth - 1)
     (g.R.Region.bits c.args.region.now - c.args.depth) (g.R.Region.bits c.half.result - (c.args.depth - 1)) (g.R.Region.bits c.half-2.result - (c.args.depth - 1)) (g.R.Region.answers c.args.region.now) (g.R.Region.answers c.half.result) (g.R.Region.answers c.half-2.result)
     (omega (arith, c.if-depth-eq0.false)) n (omega (arith, c.half.ensures.bits, c.if-depth-eq0.false)) (omega (arith, c.half-2.ensures.bits, c.if-depth-eq0.false)) c.half.ensures.answers c.half-2.ensures.answers
-    c.copy_slots-2.new.nodes c.copy_slots-2.new.leaves c.copy_slots.ensures.nodes.keeps c.copy_slots.ensures.leaves.keeps c.copy_slots.ensures.nodes.order c.copy_slots.ensures.leaves.order c.in_ok-copy_slots.ensures.met m)
+    c.copy_slots-2.new.arenas.nodes c.copy_slots-2.new.arenas.leaves c.copy_slots.ensures.nodes.keeps c.copy_slots.ensures.leaves.keeps c.copy_slots.ensures.nodes.order c.copy_slots.ensures.leaves.order c.in_ok-copy_slots.ensures.met m)
 
 pub returns-clause-refused : goal.returns-clause-refused
 returns-clause-refused g t c =
     let n = next_is c.args.first c.args.depth c.requires.shallow in
-    if_err c.copy_slots-2.result (λ e. MeetsNotSlots c.copy_slots.new.nodes c.copy_slots.new.leaves c.args.words.now (c.args.first + 1 * 2 ^ (c.args.depth - 1) % 4294967296) (c.args.depth - 1) (g.R.Region.bits c.half-2.result - (c.args.depth - 1)) (g.R.Region.answers c.half-2.result) e)
-    (λ e. MeetsNotSlots c.args.nodes.now c.args.leaves.now c.args.words.now c.args.first c.args.depth (g.R.Region.bits c.args.region.now - c.args.depth) (g.R.Region.answers c.args.region.now) e) c.copy_slots-2.ensures.refused
-    (λ e m. high_refused c.args.nodes.now c.copy_slots.new.nodes c.args.leaves.now c.copy_slots.new.leaves c.args.words.now c.args.first (c.args.first + 1 * 2 ^ (c.args.depth - 1) % 4294967296) c.args.depth (c.args.depth - 1)
+    if_err c.copy_slots-2.result (λ e. MeetsNotSlots c.copy_slots.new.arenas.nodes c.copy_slots.new.arenas.leaves c.args.words.now (c.args.first + 1 * 2 ^ (c.args.depth - 1) % 4294967296) (c.args.depth - 1) (g.R.Region.bits c.half-2.result - (c.args.depth - 1)) (g.R.Region.answers c.half-2.result) e)
+    (λ e. MeetsNotSlots c.args.arenas.now.nodes c.args.arenas.now.leaves c.args.words.now c.args.first c.args.depth (g.R.Region.bits c.args.region.now - c.args.depth) (g.R.Region.answers c.args.region.now) e) c.copy_slots-2.ensures.refused
+    (λ e m. high_refused c.args.arenas.now.nodes c.copy_slots.new.arenas.nodes c.args.arenas.now.leaves c.copy_slots.new.arenas.leaves c.args.words.now c.args.first (c.args.first + 1 * 2 ^ (c.args.depth - 1) % 4294967296) c.args.depth (c.args.depth - 1)
     (g.R.Region.bits c.args.region.now - c.args.depth) (g.R.Region.bits c.half.result - (c.args.depth - 1)) (g.R.Region.bits c.half-2.result - (c.args.depth - 1)) (g.R.Region.answers c.args.region.now) (g.R.Region.answers c.half.result) (g.R.Region.answers c.half-2.result)
     (omega (arith, c.if-depth-eq0.false)) n (omega (arith, c.half.ensures.bits, c.if-depth-eq0.false)) (omega (arith, c.half-2.ensures.bits, c.if-depth-eq0.false)) c.half.ensures.answers c.half-2.ensures.answers
     e c.copy_slots.ensures.nodes.keeps c.copy_slots.ensures.leaves.keeps c.copy_slots.ensures.nodes.order c.copy_slots.ensures.leaves.order c.in_ok-copy_slots.ensures.met m)
 
 pub returns-in_ok-reserve-clause-kept : goal.returns-in_ok-reserve-clause-kept
 returns-in_ok-reserve-clause-kept g t c =
-    kept_stored c.args.nodes.now c.args.leaves.now c.args.words.now c.args.stores.now.items c.push_reserved.new.self.items c.args.first c.in_ok-new.new (g.R.Region.bits c.args.region.now) (g.R.Region.answers c.args.region.now) c.in_ok-new.ensures.kept
+    kept_stored c.args.arenas.now.nodes c.args.arenas.now.leaves c.args.words.now c.args.stores.now.items c.push_reserved.new.self.items c.args.first c.in_ok-new.new (g.R.Region.bits c.args.region.now) (g.R.Region.answers c.args.region.now) c.in_ok-new.ensures.kept
     c.args.depth (g.R.Region.bits c.args.region.now - c.args.depth) c.if-depth-eq0.true (omega (arith, c.if-depth-eq0.true)) c.requires.stores (c.push_reserved.ensures.items ∙ ap (λ (x : List Store). x ++ record { slot = c.args.first; word = c.in_ok-new.new } ∷ []) c.reserve.ensures.items)
 
 pub returns-else-new-word-clause-kept : goal.returns-else-new-word-clause-kept
 returns-else-new-word-clause-kept g t c =
-    kept_same c.args.nodes.now c.args.leaves.now c.args.words.now c.args.stores.now.items c.args.stores.now.items c.args.first c.in_ok-new.new (g.R.Region.bits c.args.region.now) (g.R.Region.answers c.args.region.now) c.in_ok-new.ensures.kept
+    kept_same c.args.arenas.now.nodes c.args.arenas.now.leaves c.args.words.now c.args.stores.now.items c.args.stores.now.items c.args.first c.in_ok-new.new (g.R.Region.bits c.args.region.now) (g.R.Region.answers c.args.region.now) c.in_ok-new.ensures.kept
     c.args.depth (g.R.Region.bits c.args.region.now - c.args.depth) c.if-depth-eq0.true (omega (arith, c.if-depth-eq0.true)) c.requires.stores refl c.if-new-word.false
 
 pub returns-clause-kept : goal.returns-clause-kept
 returns-clause-kept g t c =
     let n = next_is c.args.first c.args.depth c.requires.shallow in
     on_ok c.copy_slots-2.result c.copy_slots-2.ensures.kept
-    (λ k. kept_halves c.args.nodes.now c.copy_slots.new.nodes c.args.leaves.now c.copy_slots.new.leaves c.args.words.now c.args.stores.now.items c.copy_slots.new.stores.items c.copy_slots-2.new.stores.items c.args.first (c.args.first + 1 * 2 ^ (c.args.depth - 1) % 4294967296) c.args.depth (c.args.depth - 1)
+    (λ k. kept_halves c.args.arenas.now.nodes c.copy_slots.new.arenas.nodes c.args.arenas.now.leaves c.copy_slots.new.arenas.leaves c.args.words.now c.args.stores.now.items c.copy_slots.new.stores.items c.copy_slots-2.new.stores.items c.args.first (c.args.first + 1 * 2 ^ (c.args.depth - 1) % 4294967296) c.args.depth (c.args.depth - 1)
     (g.R.Region.bits c.args.region.now - c.args.depth) (g.R.Region.bits c.half.result - (c.args.depth - 1)) (g.R.Region.bits c.half-2.result - (c.args.depth - 1)) (g.R.Region.answers c.args.region.now) (g.R.Region.answers c.half.result) (g.R.Region.answers c.half-2.result)
     (omega (arith, c.if-depth-eq0.false)) n (omega (arith, c.half.ensures.bits, c.if-depth-eq0.false)) (omega (arith, c.half-2.ensures.bits, c.if-depth-eq0.false)) c.half.ensures.answers c.half-2.ensures.answers
     c.copy_slots.ensures.nodes.keeps c.copy_slots.ensures.leaves.keeps c.in_ok-copy_slots.ensures.kept k)

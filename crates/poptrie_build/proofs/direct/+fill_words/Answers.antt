@@ -38,7 +38,7 @@ returns-then-not-fill_words-clause-fits g t c =
 
 pub returns-after-loop-word-clause-stands : goal.returns-after-loop-word-clause-stands
 returns-after-loop-word-clause-stands g t c =
-    λ r k h. words_same (g.R.Region.bits c.args.region.now) c.args.depth c.in-Some.hop.0 k (g.R.Region.answers c.args.region.now) c.loop-word.words c.args.nodes.now.cells (since (is_out c.args.nodes.now.free) (is_out c.args.nodes.now.free)) c.args.leaves.now.cells (since (is_out c.args.leaves.now.free) (is_out c.args.leaves.now.free)) c.requires.some c.leaf_word-leaf.ensures.small c.in-Some.ensures.one (λ v l. c.loop-word.invariant v (omega (arith, c.loop-word-test.false, c.requires.many, l)) ∙ c.leaf_word-leaf.ensures.word)
+    λ r k h. words_same (g.R.Region.bits c.args.region.now) c.args.depth c.in-Some.hop.0 k (g.R.Region.answers c.args.region.now) c.loop-word.words c.args.nodes.now.cells (since (is_out c.args.nodes.now.free) (is_out c.args.nodes.now.free)) c.args.leaves.now.cells (since (is_out c.args.leaves.now.free) (is_out c.args.leaves.now.free)) c.requires.some c.hop_word-leaf.ensures.small c.in-Some.ensures.one (λ v l. c.loop-word.invariant v (omega (arith, c.loop-word-test.false, c.requires.many, l)) ∙ c.hop_word-leaf.ensures.word)
 
 pub returns-after-loop-word-clause-nodes_left : goal.returns-after-loop-word-clause-nodes_left
 returns-after-loop-word-clause-nodes_left g t c =
@@ -77,10 +77,10 @@ pub returns-in-Some-node_word-clause-leaves_apart : goal.returns-in-Some-node_wo
 returns-in-Some-node_word-clause-leaves_apart g t c = λ r k. one_apart_leaves (since (is_out c.args.leaves.now.free) (is_out c.node_word.new.leaves.free)) c.args.depth c.in-Some-node_word.word k c.node_word.new.nodes.cells c.args.words.now c.if-depth-eq0.true c.requires.many c.in-Some-node_word.ensures.small (c.in-Some-node_word.ensures.leaves_apart k)
 
 pub returns-after-loop-word-clause-nodes_apart : goal.returns-after-loop-word-clause-nodes_apart
-returns-after-loop-word-clause-nodes_apart g t c = λ r k. (none_apart _ k c.args.nodes.now.cells c.loop-word.words (λ v l. omega (arith, c.loop-word.invariant v (omega (arith, c.loop-word-test.false, c.loop-word.auto.words, l)), c.leaf_word-leaf.ensures.word))).0
+returns-after-loop-word-clause-nodes_apart g t c = λ r k. (none_apart _ k c.args.nodes.now.cells c.loop-word.words (λ v l. omega (arith, c.loop-word.invariant v (omega (arith, c.loop-word-test.false, c.loop-word.auto.words, l)), c.hop_word-leaf.ensures.word))).0
 
 pub returns-after-loop-word-clause-leaves_apart : goal.returns-after-loop-word-clause-leaves_apart
-returns-after-loop-word-clause-leaves_apart g t c = λ r k. (none_apart _ k c.args.nodes.now.cells c.loop-word.words (λ v l. omega (arith, c.loop-word.invariant v (omega (arith, c.loop-word-test.false, c.loop-word.auto.words, l)), c.leaf_word-leaf.ensures.word))).1
+returns-after-loop-word-clause-leaves_apart g t c = λ r k. (none_apart _ k c.args.nodes.now.cells c.loop-word.words (λ v l. omega (arith, c.loop-word.invariant v (omega (arith, c.loop-word-test.false, c.loop-word.auto.words, l)), c.hop_word-leaf.ensures.word))).1
 
 pub returns-else-not-fill_words-clause-nodes_apart : goal.returns-else-not-fill_words-clause-nodes_apart
 returns-else-not-fill_words-clause-nodes_apart g t c = λ r k. halves_apart k c.fill_words.new.words c.fill_words-in-None.new.words c.fill_words.new.nodes.cells c.fill_words-in-None.new.nodes.cells (is_out c.args.nodes.now.free) (is_out c.fill_words.new.nodes.free) (is_out c.fill_words-in-None.new.nodes.free) (is_out c.args.leaves.now.free) (is_out c.fill_words.new.leaves.free) (is_out c.fill_words-in-None.new.leaves.free) c.fill_words.ensures.nodes.still c.fill_words.ensures.leaves.still c.fill_words-in-None.ensures.nodes c.fill_words-in-None.ensures.leaves.still (c.fill_words.ensures.nodes_apart c.if-not-fill_words.false k) (c.fill_words-in-None.ensures.nodes_apart r k)

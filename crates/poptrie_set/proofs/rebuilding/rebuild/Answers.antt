@@ -17,7 +17,7 @@ returns-then-len-eq0-clause-rebuilds g c =
     let f = g.R.Region.answers c.args.region.now in
     let p = (prefix_as c.args.prefix.now).bits in
     let short = no_bits (width c.args.prefix.now.family) c.args.prefix.now.len c.args.direct_bits c.args.prefix.now.bits (least_none c.args.prefix.now.len c.args.direct_bits c.min-len.result (omega (arith, c.min-len.ensures)) (omega (arith, c.if-len-eq0.true))) in
-    ok_map c.copy_slots.result c.copy_slots.ensures.replaces (λ re. all_rebuilds c.args.nodes.now c.copy_slots.new.nodes c.args.node_blocks.now c.copy_slots.new.node_blocks c.args.leaves.now c.copy_slots.new.leaves c.args.leaf_blocks.now c.copy_slots.new.leaf_blocks c.args.direct_bits c.args.direct_bits 0 d d f f p (omega arith) (λ h q m. whole_part p c.args.direct_bits d f h q short m) refl c.args.words.now c.args.stores.now.items c.copy_slots.new.stores.items c.requires.none re)
+    ok_map c.copy_slots.result c.copy_slots.ensures.replaces (λ re. all_rebuilds c.args.arenas.now.nodes c.copy_slots.new.arenas.nodes c.args.arenas.now.node_blocks c.copy_slots.new.arenas.node_blocks c.args.arenas.now.leaves c.copy_slots.new.arenas.leaves c.args.arenas.now.leaf_blocks c.copy_slots.new.arenas.leaf_blocks c.args.direct_bits c.args.direct_bits 0 d d f f p (omega arith) (λ h q m. whole_part p c.args.direct_bits d f h q short m) refl c.args.words.now c.args.stores.now.items c.copy_slots.new.stores.items c.requires.none re)
 
 pub returns-then-len-eq0-clause-aside : goal.returns-then-len-eq0-clause-aside
 returns-then-len-eq0-clause-aside g c =
@@ -25,7 +25,7 @@ returns-then-len-eq0-clause-aside g c =
     let f = g.R.Region.answers c.args.region.now in
     let p = (prefix_as c.args.prefix.now).bits in
     let short = no_bits (width c.args.prefix.now.family) c.args.prefix.now.len c.args.direct_bits c.args.prefix.now.bits (least_none c.args.prefix.now.len c.args.direct_bits c.min-len.result (omega (arith, c.min-len.ensures)) (omega (arith, c.if-len-eq0.true))) in
-    ok_map c.copy_slots.result c.copy_slots.ensures.replaces (λ re. all_aside c.args.nodes.now c.copy_slots.new.nodes c.args.node_blocks.now c.copy_slots.new.node_blocks c.args.leaves.now c.copy_slots.new.leaves c.args.leaf_blocks.now c.copy_slots.new.leaf_blocks c.args.direct_bits c.args.direct_bits 0 d d f f p (omega arith) (λ h q m. whole_part p c.args.direct_bits d f h q short m) refl c.args.words.now c.args.stores.now.items c.copy_slots.new.stores.items c.requires.none re)
+    ok_map c.copy_slots.result c.copy_slots.ensures.replaces (λ re. all_aside c.args.arenas.now.nodes c.copy_slots.new.arenas.nodes c.args.arenas.now.node_blocks c.copy_slots.new.arenas.node_blocks c.args.arenas.now.leaves c.copy_slots.new.arenas.leaves c.args.arenas.now.leaf_blocks c.copy_slots.new.arenas.leaf_blocks c.args.direct_bits c.args.direct_bits 0 d d f f p (omega arith) (λ h q m. whole_part p c.args.direct_bits d f h q short m) refl c.args.words.now c.args.stores.now.items c.copy_slots.new.stores.items c.requires.none re)
 
 pub returns-then-len-eq0-clause-kept : goal.returns-then-len-eq0-clause-kept
 returns-then-len-eq0-clause-kept g c =
@@ -33,7 +33,7 @@ returns-then-len-eq0-clause-kept g c =
     let f = g.R.Region.answers c.args.region.now in
     let p = (prefix_as c.args.prefix.now).bits in
     let short = no_bits (width c.args.prefix.now.family) c.args.prefix.now.len c.args.direct_bits c.args.prefix.now.bits (least_none c.args.prefix.now.len c.args.direct_bits c.min-len.result (omega (arith, c.min-len.ensures)) (omega (arith, c.if-len-eq0.true))) in
-    both_ok c.copy_slots.result c.copy_slots.ensures.kept c.copy_slots.ensures.stores (λ kept are. all_kept c.args.nodes.now c.copy_slots.new.nodes c.args.node_blocks.now c.copy_slots.new.node_blocks c.args.leaves.now c.copy_slots.new.leaves c.args.leaf_blocks.now c.copy_slots.new.leaf_blocks c.args.direct_bits c.args.direct_bits 0 d d f f p (omega arith) (λ h q m. whole_part p c.args.direct_bits d f h q short m) refl c.args.words.now c.args.stores.now.items c.copy_slots.new.stores.items c.requires.none kept are)
+    both_ok c.copy_slots.result c.copy_slots.ensures.kept c.copy_slots.ensures.stores (λ kept are. all_kept c.args.arenas.now.nodes c.copy_slots.new.arenas.nodes c.args.arenas.now.node_blocks c.copy_slots.new.arenas.node_blocks c.args.arenas.now.leaves c.copy_slots.new.arenas.leaves c.args.arenas.now.leaf_blocks c.copy_slots.new.arenas.leaf_blocks c.args.direct_bits c.args.direct_bits 0 d d f f p (omega arith) (λ h q m. whole_part p c.args.direct_bits d f h q short m) refl c.args.words.now c.args.stores.now.items c.copy_slots.new.stores.items c.requires.none kept are)
 
 pub returns-then-len-eq0-clause-met : goal.returns-then-len-eq0-clause-met
 returns-then-len-eq0-clause-met g c =
@@ -41,7 +41,7 @@ returns-then-len-eq0-clause-met g c =
     let f = g.R.Region.answers c.args.region.now in
     let p = (prefix_as c.args.prefix.now).bits in
     let short = no_bits (width c.args.prefix.now.family) c.args.prefix.now.len c.args.direct_bits c.args.prefix.now.bits (least_none c.args.prefix.now.len c.args.direct_bits c.min-len.result (omega (arith, c.min-len.ensures)) (omega (arith, c.if-len-eq0.true))) in
-    ok_map c.copy_slots.result c.copy_slots.ensures.met (λ m. part_met c.args.nodes.now c.copy_slots.new.nodes c.args.node_blocks.now c.copy_slots.new.node_blocks c.args.leaves.now c.copy_slots.new.leaves c.args.leaf_blocks.now c.copy_slots.new.leaf_blocks c.args.direct_bits c.args.direct_bits 0 d d f f p (omega arith) (λ h q m. whole_part p c.args.direct_bits d f h q short m) refl c.args.words.now m)
+    ok_map c.copy_slots.result c.copy_slots.ensures.met (λ m. part_met c.args.arenas.now.nodes c.copy_slots.new.arenas.nodes c.args.arenas.now.node_blocks c.copy_slots.new.arenas.node_blocks c.args.arenas.now.leaves c.copy_slots.new.arenas.leaves c.args.arenas.now.leaf_blocks c.copy_slots.new.arenas.leaf_blocks c.args.direct_bits c.args.direct_bits 0 d d f f p (omega arith) (λ h q m. whole_part p c.args.direct_bits d f h q short m) refl c.args.words.now m)
 
 pub returns-then-len-eq0-clause-stores : goal.returns-then-len-eq0-clause-stores
 returns-then-len-eq0-clause-stores g c =
@@ -56,8 +56,8 @@ returns-then-len-eq0-clause-refused g c =
     let f = g.R.Region.answers c.args.region.now in
     let p = (prefix_as c.args.prefix.now).bits in
     let short = no_bits (width c.args.prefix.now.family) c.args.prefix.now.len c.args.direct_bits c.args.prefix.now.bits (least_none c.args.prefix.now.len c.args.direct_bits c.min-len.result (omega (arith, c.min-len.ensures)) (omega (arith, c.if-len-eq0.true))) in
-    if_err_map c.copy_slots.result (λ r. MeetsNotSlots c.args.nodes.now c.args.leaves.now c.args.words.now 0 c.args.direct_bits d f r) (λ r. MeetsNotRenewal c.args.nodes.now c.args.leaves.now c.args.words.now p c.args.direct_bits d f r) c.copy_slots.ensures.refused
-    (λ r out. part_refused c.args.nodes.now c.copy_slots.new.nodes c.args.node_blocks.now c.copy_slots.new.node_blocks c.args.leaves.now c.copy_slots.new.leaves c.args.leaf_blocks.now c.copy_slots.new.leaf_blocks c.args.direct_bits c.args.direct_bits 0 d d f f p (omega arith) (λ h q m. whole_part p c.args.direct_bits d f h q short m) refl c.args.words.now r out)
+    if_err_map c.copy_slots.result (λ r. MeetsNotSlots c.args.arenas.now.nodes c.args.arenas.now.leaves c.args.words.now 0 c.args.direct_bits d f r) (λ r. MeetsNotRenewal c.args.arenas.now.nodes c.args.arenas.now.leaves c.args.words.now p c.args.direct_bits d f r) c.copy_slots.ensures.refused
+    (λ r out. part_refused c.args.arenas.now.nodes c.copy_slots.new.arenas.nodes c.args.arenas.now.node_blocks c.copy_slots.new.arenas.node_blocks c.args.arenas.now.leaves c.copy_slots.new.arenas.leaves c.args.arenas.now.leaf_blocks c.copy_slots.new.arenas.leaf_blocks c.args.direct_bits c.args.direct_bits 0 d d f f p (omega arith) (λ h q m. whole_part p c.args.direct_bits d f h q short m) refl c.args.words.now r out)
 
 pub returns-clause-rebuilds : goal.returns-clause-rebuilds
 returns-clause-rebuilds g c =
@@ -82,7 +82,7 @@ returns-clause-rebuilds g c =
     let e = g.R.Region.bits c.part_of.result - j in
     let same : e ≡ d = omega (arith, c.part_of.ensures.bits, few, c.requires.bits, c.requires.few, c.args.prefix.now.fits, short) in
     let part : (h : ℕ → List Bool → ℕ) (q : List Bool → ℕ) → IsSpliced (prefix_as c.args.prefix.now).bits c.args.direct_bits (g.R.Region.bits c.args.region.now - c.args.direct_bits) (g.R.Region.answers c.args.region.now) h q → IsPartOf c.args.direct_bits (c.args.direct_bits - c.min-len.result) (c.args.prefix.now.bits / 2 ^ (c.width-bits.result - c.min-len.result) * 2 ^ (c.args.direct_bits - c.min-len.result) % 4294967296) (g.R.Region.bits c.args.region.now - c.args.direct_bits) q (g.R.Region.answers c.part_of.result) h = λ h q a. number_part w len c.args.direct_bits t n number j first d short c.args.prefix.now.fits few c.args.prefix.now.below is refl f x h q (λ l. omega (arith, least, l)) at c.part_of.ensures.answers a in
-    ok_map c.copy_slots-2.result c.copy_slots-2.ensures.replaces (λ re. all_rebuilds c.args.nodes.now c.copy_slots-2.new.nodes c.args.node_blocks.now c.copy_slots-2.new.node_blocks c.args.leaves.now c.copy_slots-2.new.leaves c.args.leaf_blocks.now c.copy_slots-2.new.leaf_blocks c.args.direct_bits j first d e f x p many part same c.args.words.now c.args.stores.now.items c.copy_slots-2.new.stores.items c.requires.none re)
+    ok_map c.copy_slots-2.result c.copy_slots-2.ensures.replaces (λ re. all_rebuilds c.args.arenas.now.nodes c.copy_slots-2.new.arenas.nodes c.args.arenas.now.node_blocks c.copy_slots-2.new.arenas.node_blocks c.args.arenas.now.leaves c.copy_slots-2.new.arenas.leaves c.args.arenas.now.leaf_blocks c.copy_slots-2.new.arenas.leaf_blocks c.args.direct_bits j first d e f x p many part same c.args.words.now c.args.stores.now.items c.copy_slots-2.new.stores.items c.requires.none re)
 
 pub returns-clause-aside : goal.returns-clause-aside
 returns-clause-aside g c =
@@ -107,7 +107,7 @@ returns-clause-aside g c =
     let e = g.R.Region.bits c.part_of.result - j in
     let same : e ≡ d = omega (arith, c.part_of.ensures.bits, few, c.requires.bits, c.requires.few, c.args.prefix.now.fits, short) in
     let part : (h : ℕ → List Bool → ℕ) (q : List Bool → ℕ) → IsSpliced (prefix_as c.args.prefix.now).bits c.args.direct_bits (g.R.Region.bits c.args.region.now - c.args.direct_bits) (g.R.Region.answers c.args.region.now) h q → IsPartOf c.args.direct_bits (c.args.direct_bits - c.min-len.result) (c.args.prefix.now.bits / 2 ^ (c.width-bits.result - c.min-len.result) * 2 ^ (c.args.direct_bits - c.min-len.result) % 4294967296) (g.R.Region.bits c.args.region.now - c.args.direct_bits) q (g.R.Region.answers c.part_of.result) h = λ h q a. number_part w len c.args.direct_bits t n number j first d short c.args.prefix.now.fits few c.args.prefix.now.below is refl f x h q (λ l. omega (arith, least, l)) at c.part_of.ensures.answers a in
-    ok_map c.copy_slots-2.result c.copy_slots-2.ensures.replaces (λ re. all_aside c.args.nodes.now c.copy_slots-2.new.nodes c.args.node_blocks.now c.copy_slots-2.new.node_blocks c.args.leaves.now c.copy_slots-2.new.leaves c.args.leaf_blocks.now c.copy_slots-2.new.leaf_blocks c.args.direct_bits j first d e f x p many part same c.args.words.now c.args.stores.now.items c.copy_slots-2.new.stores.items c.requires.none re)
+    ok_map c.copy_slots-2.result c.copy_slots-2.ensures.replaces (λ re. all_aside c.args.arenas.now.nodes c.copy_slots-2.new.arenas.nodes c.args.arenas.now.node_blocks c.copy_slots-2.new.arenas.node_blocks c.args.arenas.now.leaves c.copy_slots-2.new.arenas.leaves c.args.arenas.now.leaf_blocks c.copy_slots-2.new.arenas.leaf_blocks c.args.direct_bits j first d e f x p many part same c.args.words.now c.args.stores.now.items c.copy_slots-2.new.stores.items c.requires.none re)
 
 pub returns-clause-kept : goal.returns-clause-kept
 returns-clause-kept g c =
@@ -132,7 +132,7 @@ returns-clause-kept g c =
     let e = g.R.Region.bits c.part_of.result - j in
     let same : e ≡ d = omega (arith, c.part_of.ensures.bits, few, c.requires.bits, c.requires.few, c.args.prefix.now.fits, short) in
     let part : (h : ℕ → List Bool → ℕ) (q : List Bool → ℕ) → IsSpliced (prefix_as c.args.prefix.now).bits c.args.direct_bits (g.R.Region.bits c.args.region.now - c.args.direct_bits) (g.R.Region.answers c.args.region.now) h q → IsPartOf c.args.direct_bits (c.args.direct_bits - c.min-len.result) (c.args.prefix.now.bits / 2 ^ (c.width-bits.result - c.min-len.result) * 2 ^ (c.args.direct_bits - c.min-len.result) % 4294967296) (g.R.Region.bits c.args.region.now - c.args.direct_bits) q (g.R.Region.answers c.part_of.result) h = λ h q a. number_part w len c.args.direct_bits t n number j first d short c.args.prefix.now.fits few c.args.prefix.now.below is refl f x h q (λ l. omega (arith, least, l)) at c.part_of.ensures.answers a in
-    both_ok c.copy_slots-2.result c.copy_slots-2.ensures.kept c.copy_slots-2.ensures.stores (λ kept are. all_kept c.args.nodes.now c.copy_slots-2.new.nodes c.args.node_blocks.now c.copy_slots-2.new.node_blocks c.args.leaves.now c.copy_slots-2.new.leaves c.args.leaf_blocks.now c.copy_slots-2.new.leaf_blocks c.args.direct_bits j first d e f x p many part same c.args.words.now c.args.stores.now.items c.copy_slots-2.new.stores.items c.requires.none kept are)
+    both_ok c.copy_slots-2.result c.copy_slots-2.ensures.kept c.copy_slots-2.ensures.stores (λ kept are. all_kept c.args.arenas.now.nodes c.copy_slots-2.new.arenas.nodes c.args.arenas.now.node_blocks c.copy_slots-2.new.arenas.node_blocks c.args.arenas.now.leaves c.copy_slots-2.new.arenas.leaves c.args.arenas.now.leaf_blocks c.copy_slots-2.new.arenas.leaf_blocks c.args.direct_bits j first d e f x p many part same c.args.words.now c.args.stores.now.items c.copy_slots-2.new.stores.items c.requires.none kept are)
 
 pub returns-clause-met : goal.returns-clause-met
 returns-clause-met g c =
@@ -157,7 +157,7 @@ returns-clause-met g c =
     let e = g.R.Region.bits c.part_of.result - j in
     let same : e ≡ d = omega (arith, c.part_of.ensures.bits, few, c.requires.bits, c.requires.few, c.args.prefix.now.fits, short) in
     let part : (h : ℕ → List Bool → ℕ) (q : List Bool → ℕ) → IsSpliced (prefix_as c.args.prefix.now).bits c.args.direct_bits (g.R.Region.bits c.args.region.now - c.args.direct_bits) (g.R.Region.answers c.args.region.now) h q → IsPartOf c.args.direct_bits (c.args.direct_bits - c.min-len.result) (c.args.prefix.now.bits / 2 ^ (c.width-bits.result - c.min-len.result) * 2 ^ (c.args.direct_bits - c.min-len.result) % 4294967296) (g.R.Region.bits c.args.region.now - c.args.direct_bits) q (g.R.Region.answers c.part_of.result) h = λ h q a. number_part w len c.args.direct_bits t n number j first d short c.args.prefix.now.fits few c.args.prefix.now.below is refl f x h q (λ l. omega (arith, least, l)) at c.part_of.ensures.answers a in
-    ok_map c.copy_slots-2.result c.copy_slots-2.ensures.met (λ m. part_met c.args.nodes.now c.copy_slots-2.new.nodes c.args.node_blocks.now c.copy_slots-2.new.node_blocks c.args.leaves.now c.copy_slots-2.new.leaves c.args.leaf_blocks.now c.copy_slots-2.new.leaf_blocks c.args.direct_bits j first d e f x p many part same c.args.words.now m)
+    ok_map c.copy_slots-2.result c.copy_slots-2.ensures.met (λ m. part_met c.args.arenas.now.nodes c.copy_slots-2.new.arenas.nodes c.args.arenas.now.node_blocks c.copy_slots-2.new.arenas.node_blocks c.args.arenas.now.leaves c.copy_slots-2.new.arenas.leaves c.args.arenas.now.leaf_blocks c.copy_slots-2.new.arenas.leaf_blocks c.args.direct_bits j first d e f x p many part same c.args.words.now m)
 
 pub returns-clause-stores : goal.returns-clause-stores
 returns-clause-stores g c =
@@ -207,8 +207,8 @@ returns-clause-refused g c =
     let e = g.R.Region.bits c.part_of.result - j in
     let same : e ≡ d = omega (arith, c.part_of.ensures.bits, few, c.requires.bits, c.requires.few, c.args.prefix.now.fits, short) in
     let part : (h : ℕ → List Bool → ℕ) (q : List Bool → ℕ) → IsSpliced (prefix_as c.args.prefix.now).bits c.args.direct_bits (g.R.Region.bits c.args.region.now - c.args.direct_bits) (g.R.Region.answers c.args.region.now) h q → IsPartOf c.args.direct_bits (c.args.direct_bits - c.min-len.result) (c.args.prefix.now.bits / 2 ^ (c.width-bits.result - c.min-len.result) * 2 ^ (c.args.direct_bits - c.min-len.result) % 4294967296) (g.R.Region.bits c.args.region.now - c.args.direct_bits) q (g.R.Region.answers c.part_of.result) h = λ h q a. number_part w len c.args.direct_bits t n number j first d short c.args.prefix.now.fits few c.args.prefix.now.below is refl f x h q (λ l. omega (arith, least, l)) at c.part_of.ensures.answers a in
-    if_err_map c.copy_slots-2.result (λ r. MeetsNotSlots c.args.nodes.now c.args.leaves.now c.args.words.now first j e x r) (λ r. MeetsNotRenewal c.args.nodes.now c.args.leaves.now c.args.words.now p c.args.direct_bits d f r) c.copy_slots-2.ensures.refused
-    (λ r out. part_refused c.args.nodes.now c.copy_slots-2.new.nodes c.args.node_blocks.now c.copy_slots-2.new.node_blocks c.args.leaves.now c.copy_slots-2.new.leaves c.args.leaf_blocks.now c.copy_slots-2.new.leaf_blocks c.args.direct_bits j first d e f x p many part same c.args.words.now r out)
+    if_err_map c.copy_slots-2.result (λ r. MeetsNotSlots c.args.arenas.now.nodes c.args.arenas.now.leaves c.args.words.now first j e x r) (λ r. MeetsNotRenewal c.args.arenas.now.nodes c.args.arenas.now.leaves c.args.words.now p c.args.direct_bits d f r) c.copy_slots-2.ensures.refused
+    (λ r out. part_refused c.args.arenas.now.nodes c.copy_slots-2.new.arenas.nodes c.args.arenas.now.node_blocks c.copy_slots-2.new.arenas.node_blocks c.args.arenas.now.leaves c.copy_slots-2.new.arenas.leaves c.args.arenas.now.leaf_blocks c.copy_slots-2.new.arenas.leaf_blocks c.args.direct_bits j first d e f x p many part same c.args.words.now r out)
 
 pub copy_slots-requires-clause-few : goal.copy_slots-requires-clause-few
 copy_slots-requires-clause-few g c =
@@ -222,7 +222,7 @@ pub copy_slots-requires-clause-words : goal.copy_slots-requires-clause-words
 copy_slots-requires-clause-words g c =
     λ v low high.
     let same : g.R.Region.bits c.args.region.now - c.args.direct_bits ≡ c.width-bits.result - c.args.direct_bits = omega (arith, c.requires.bits, c.width-bits.ensures) in
-    subst (λ (n : ℕ). IsWord c.args.nodes.now c.args.leaves.now (slice_index c.args.words.now v) n) same (c.requires.words v (omega (arith, high)))
+    subst (λ (n : ℕ). IsWord c.args.arenas.now.nodes c.args.arenas.now.leaves (slice_index c.args.words.now v) n) same (c.requires.words v (omega (arith, high)))
 
 pub overflow_cast-number-2 : goal.overflow_cast-number-2
 overflow_cast-number-2 g c =
@@ -279,4 +279,4 @@ copy_slots-requires-2-clause-words g c =
     let at : first ≡ number * 2 ^ j = number_at w len c.args.direct_bits t n number j first d short c.args.prefix.now.fits few c.args.prefix.now.below is refl c.requires.few in
     let many = number_many w len c.args.direct_bits t n number j first d short c.args.prefix.now.fits few c.args.prefix.now.below is refl at in
     let same : g.R.Region.bits c.args.region.now - c.args.direct_bits ≡ c.width-bits.result - c.min-len.result - (c.args.direct_bits - c.min-len.result) = omega (arith, c.requires.bits, c.width-bits.ensures, few) in
-    subst (λ (n : ℕ). IsWord c.args.nodes.now c.args.leaves.now (slice_index c.args.words.now v) n) same (c.requires.words v (omega (arith, high, many)))
+    subst (λ (n : ℕ). IsWord c.args.arenas.now.nodes c.args.arenas.now.leaves (slice_index c.args.words.now v) n) same (c.requires.words v (omega (arith, high, many)))

@@ -10,7 +10,7 @@ returns c =
     (record {
       shows = c.self.invariant.1;
       nodes_over = c.retired_law.ensures;
-      leaves_over = subst (λ (t : ℕ). AreRetiredBy t c.self.inside.leaf_blocks.retired) kept.times c.retired_law-2.ensures;
+      leaves_over = subst (λ (t : ℕ). AreRetiredBy t c.self.inside.arenas.leaf_blocks.retired) kept.times c.retired_law-2.ensures;
       quiet = λ e. record {
         no_stores = ap stores_of (kept.quiet e).no_stores;
         nodes_taken = (kept.quiet e).nodes_taken;

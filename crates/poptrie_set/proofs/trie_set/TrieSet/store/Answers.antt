@@ -21,11 +21,11 @@ invariant_of-self c =
     let at : get_or (stores_of c.self.inside.stores.items) c.self.inside.made (0, 0) ≡ (c.index-next.result.now.slot, c.index-next.result.now.word) = store_at c.self.inside.stores.items c.self.inside.made c.index-next.result.now l ∙ ap (λ (y : Stored). (y.slot, y.word)) (sym c.index-next.ensures) in
     let some = c.self.invariant.1 in
     let pending = subst (λ (q : Seen). q.pending ≡ true) (sym c.self.view_is) c.requires.0 in (
-      store_keeps c.self.inside.direct_bits c.self.inside.words.items c.self.inside.nodes c.self.inside.leaves c.self.inside.node_blocks c.self.inside.leaf_blocks c.self.inside.pending c.self.inside.stores.items c.self.inside.made c.index-next.result.now.slot c.index-next.result.now.word pending l c.self.invariant.0,
+      store_keeps c.self.inside.direct_bits c.self.inside.words.items c.self.inside.arenas.nodes c.self.inside.arenas.leaves c.self.inside.arenas.node_blocks c.self.inside.arenas.leaf_blocks c.self.inside.pending c.self.inside.stores.items c.self.inside.made c.index-next.result.now.slot c.index-next.result.now.word pending l c.self.invariant.0,
       record {
         before = some.before;
         after = some.after;
-        shows = store_step (seen_as c.self.inside.family c.self.inside.direct_bits c.self.inside.words.items c.self.inside.nodes c.self.inside.leaves c.self.inside.node_blocks c.self.inside.leaf_blocks c.self.inside.pending c.self.inside.stores.items c.self.inside.made) c.index-next.result.now.slot c.index-next.result.now.word more at some.before some.after some.shows;
+        shows = store_step (seen_as c.self.inside.family c.self.inside.direct_bits c.self.inside.words.items c.self.inside.arenas.nodes c.self.inside.arenas.leaves c.self.inside.arenas.node_blocks c.self.inside.arenas.leaf_blocks c.self.inside.pending c.self.inside.stores.items c.self.inside.made) c.index-next.result.now.slot c.index-next.result.now.word more at some.before some.after some.shows;
       },
     )
 
@@ -42,17 +42,17 @@ returns-clause-shows c = λ L M sh.
     let l : c.self.inside.made < length c.self.inside.stores.items = search rules in
     let more : c.self.inside.made < length (stores_of c.self.inside.stores.items) = omega arith in
     let at : get_or (stores_of c.self.inside.stores.items) c.self.inside.made (0, 0) ≡ (c.index-next.result.now.slot, c.index-next.result.now.word) = store_at c.self.inside.stores.items c.self.inside.made c.index-next.result.now l ∙ ap (λ (y : Stored). (y.slot, y.word)) (sym c.index-next.ensures) in
-    store_step (seen_as c.self.inside.family c.self.inside.direct_bits c.self.inside.words.items c.self.inside.nodes c.self.inside.leaves c.self.inside.node_blocks c.self.inside.leaf_blocks c.self.inside.pending c.self.inside.stores.items c.self.inside.made) c.index-next.result.now.slot c.index-next.result.now.word more at L M (subst (λ (q : Seen). ShowsIn q L M) (sym c.self.view_is) sh)
+    store_step (seen_as c.self.inside.family c.self.inside.direct_bits c.self.inside.words.items c.self.inside.arenas.nodes c.self.inside.arenas.leaves c.self.inside.arenas.node_blocks c.self.inside.arenas.leaf_blocks c.self.inside.pending c.self.inside.stores.items c.self.inside.made) c.index-next.result.now.slot c.index-next.result.now.word more at L M (subst (λ (q : Seen). ShowsIn q L M) (sym c.self.view_is) sh)
 
 pub returns-clause-fits : goal.returns-clause-fits
 returns-clause-fits c = λ os f.
-    store_keeps_fits (seen_as c.self.inside.family c.self.inside.direct_bits c.self.inside.words.items c.self.inside.nodes c.self.inside.leaves c.self.inside.node_blocks c.self.inside.leaf_blocks c.self.inside.pending c.self.inside.stores.items c.self.inside.made) c.index-next.result.now.slot c.index-next.result.now.word os (subst (λ (q : Seen). FitsIn q os) (sym c.self.view_is) f)
+    store_keeps_fits (seen_as c.self.inside.family c.self.inside.direct_bits c.self.inside.words.items c.self.inside.arenas.nodes c.self.inside.arenas.leaves c.self.inside.arenas.node_blocks c.self.inside.arenas.leaf_blocks c.self.inside.pending c.self.inside.stores.items c.self.inside.made) c.index-next.result.now.slot c.index-next.result.now.word os (subst (λ (q : Seen). FitsIn q os) (sym c.self.view_is) f)
 
 pub returns-then-self-len-clause-cells : goal.returns-then-self-len-clause-cells
 returns-then-self-len-clause-cells c = still_cells c.args.self.now 0
 
 pub returns-clause-cells : goal.returns-clause-cells
 returns-clause-cells c =
-    let l = seen_as c.self.inside.family c.self.inside.direct_bits c.self.inside.words.items c.self.inside.nodes c.self.inside.leaves c.self.inside.node_blocks c.self.inside.leaf_blocks c.self.inside.pending c.self.inside.stores.items c.self.inside.made in
+    let l = seen_as c.self.inside.family c.self.inside.direct_bits c.self.inside.words.items c.self.inside.arenas.nodes c.self.inside.arenas.leaves c.self.inside.arenas.node_blocks c.self.inside.arenas.leaf_blocks c.self.inside.pending c.self.inside.stores.items c.self.inside.made in
     let m = after_store l c.index-next.result.now.slot c.index-next.result.now.word in
     subst (λ (x : Seen). KeepsCells 0 x m) c.self.view_is (store_cells l 0 c.index-next.result.now.slot c.index-next.result.now.word)
