@@ -82,21 +82,23 @@ module _ (f : Family) (q len : ℕ) (few : len ≤ width f) (old mid : List Node
       best_carry (suc (width f)) mid mid (changed C S1) S2 a1.name (λ a. lpm (edit (bits_of len q) set (whole f mid).routes) a 0) 0 [] a1.tree
       (λ j r e b. (refl, made j (omega (arith, l, within_it mid free1 a1.spares j a1.name r a1.held e)))) m.best
 
-  pub is_laid : (hop depth n : ℕ) (O C : List Change) (x : Best) (S2 S3 : ℕ → Best) (new : List Node) (free' : ℕ) (more : Bool) → depth ≡ width f → O ≡ [] → length mid ≤ n + 1 → Plans (Some hop) depth O C x → ((j : ℕ) → j ≤ n → S2 j ≡ changed C S1 j) →
-      Places Route hop q len mid free1 new free' S2 S3 more → IsArena f new free' × KeepsBest f new S3 × IsLaid Route (bits_of len q) hop (whole f old) (whole f new)
-  is_laid hop depth n O C x S2 S3 new free' more w o l plan made placed =
+  pub is_laid : (hop depth n : ℕ) (O C : List Change) (x : Best) (S2 S3 : ℕ → Best) (done new : List Node) (free2 free' : ℕ) (more : Bool) → done ≡ mid → free2 ≡ free1 → depth ≡ width f → O ≡ [] → length mid ≤ n + 1 → Plans (Some hop) depth O C x → ((j : ℕ) → j ≤ n → S2 j ≡ changed C S1 j) →
+      Places Route hop q len done free2 new free' S2 S3 more → IsArena f new free' × KeepsBest f new S3 × IsLaid Route (bits_of len q) hop (whole f old) (whole f new)
+  is_laid hop depth n O C x S2 S3 done new free2 free' more stays frees w o l plan made placed =
       let k2 = after_plan (Some hop) depth n O C x S2 w o l plan made in
-      let y = placed_whole f Route q len hop free1 free' mid new S2 S3 more few a1 placed in (
+      let at = subst (λ (x : ℕ). Places Route hop q len mid x new free' S2 S3 more) frees (subst (λ (cs : List Node). Places Route hop q len cs free2 new free' S2 S3 more) stays placed) in
+      let y = placed_whole f Route q len hop free1 free' mid new S2 S3 more few a1 at in (
         y.0,
         best_alike (suc (width f)) new S3 (λ a. lpm (edit (bits_of len q) (Some hop) (whole f mid).routes) a 0) (λ a. lpm (whole f new).routes a 0) 0
             (λ a u. ap (λ R. lpm R a 0) (sym (ap (λ (w : Walks). w.routes) y.1.set ∙ ap (edit (bits_of len q) (Some hop)) y.1.room.routes))) (y.2 k2),
         subst (λ (w : Walks). IsLaid Route (bits_of len q) hop w (whole f new)) (ap (whole f) same) y.1,
       )
 
-  pub is_altered : (o : Option ℕ) (depth n : ℕ) (O C : List Change) (x : Best) (S2 : ℕ → Best) (new : List Node) (free' : ℕ) → CanEdit (bits_of len q) o (whole f mid).nodes → depth ≡ width f → O ≡ [] → length mid ≤ n + 1 → Plans o depth O C x →
-      ((j : ℕ) → j ≤ n → S2 j ≡ changed C S1 j) → free' ≡ free1 → Assigns o len q mid new → HalvesStay mid new → IsArena f new free' × KeepsBest f new S2 × (whole f new ≡ edited Route (bits_of len q) o (whole f mid))
-  is_altered o depth n O C x S2 new free' w0 w z l plan made g assigned stay =
-      put_in f q len o free1 free' mid new S2 few g a1 w0 (after_plan o depth n O C x S2 w z l plan made) assigned stay
+  pub is_altered : (o : Option ℕ) (depth n : ℕ) (O C : List Change) (x : Best) (S2 S3 : ℕ → Best) (done new : List Node) (free2 free' : ℕ) → done ≡ mid → free2 ≡ free1 → S3 ≡ S2 → CanEdit (bits_of len q) o (whole f mid).nodes → depth ≡ width f → O ≡ [] → length mid ≤ n + 1 → Plans o depth O C x →
+      ((j : ℕ) → j ≤ n → S2 j ≡ changed C S1 j) → free' ≡ free2 → Assigns o len q done new → HalvesStay done new → IsArena f new free' × KeepsBest f new S3 × (whole f new ≡ edited Route (bits_of len q) o (whole f mid))
+  is_altered o depth n O C x S2 S3 done new free2 free' stays frees kept w0 w z l plan made g assigned stay =
+      let y = put_in f q len o free1 free' mid new S2 few (g ∙ frees) a1 w0 (after_plan o depth n O C x S2 w z l plan made) (subst (λ (cs : List Node). Assigns o len q cs new) stays assigned) (subst (λ (cs : List Node). HalvesStay cs new) stays stay) in
+      (y.0, subst (λ (K : ℕ → Best). KeepsBest f new K) (sym kept) y.1, y.2)
 
 -- ---- what changes no route
 

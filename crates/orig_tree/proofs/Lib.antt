@@ -19,6 +19,7 @@ pub mod Branching
 pub mod Within
 pub mod Standing
 pub mod Mending
+pub mod Stores
 pub mod Stopping
 pub mod Fitting
 pub mod Growing

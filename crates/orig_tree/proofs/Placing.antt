@@ -95,9 +95,10 @@ placed_none label left q h low hop b changed more set n old mid below new free1 
     }
 
 -- the spare places begin where they did
-pub placed_free : (d : ℕ) (label : Label) (q : List Bool) (hop : ℕ) (old new : List Node) (free free' : ℕ) (name : ℕ → Owner) (i : ℕ) (p : List Bool) (f : List Bool → ℕ) (S S' : ℕ → Best) (more : Bool) → free' ≡ free →
-    IsPlaced d label q hop old new free name i p f S S' more → IsPlaced d label q hop old new free' name i p f S S' more
-placed_free d label q hop old new free free' name i p f S S' more e y = subst (λ (x : ℕ). IsPlaced d label q hop old new x name i p f S S' more) (sym e) y
+pub placed_free : (d : ℕ) (label : Label) (q : List Bool) (hop : ℕ) (old new : List Node) (free free' : ℕ) (name : ℕ → Owner) (i : ℕ) (p : List Bool) (f : List Bool → ℕ) (S S1 S' : ℕ → Best) (more : Bool) → free' ≡ free → S' ≡ S1 →
+    IsPlaced d label q hop old new free name i p f S S1 more → IsPlaced d label q hop old new free' name i p f S S' more
+placed_free d label q hop old new free free' name i p f S S1 S' more e k y =
+    subst (λ (x : ℕ). IsPlaced d label q hop old new x name i p f S S' more) (sym e) (subst (λ (K : ℕ → Best). IsPlaced d label q hop old new free name i p f S K more) (sym k) y)
 
 -- what was reserved is what there was
 pub placed_same : (d : ℕ) (label : Label) (q : List Bool) (h hop : ℕ) (set : Option ℕ) (old mid new : List Node) (free free1 free' : ℕ) (name : ℕ → Owner) (i c : ℕ) (p : List Bool) (S S1 S' : ℕ → Best) (more : Bool) → mid ≡ old → free1 ≡ free → ((j : ℕ) → S1 j ≡ S j) →

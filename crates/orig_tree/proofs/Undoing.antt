@@ -126,14 +126,16 @@ put_in f q len set free free' old new S few g a w k assigned stay =
     )
 
 -- what was kept is there again, and the route
-pub taken_back : (f : Family) (R : Table) (u : Undo) (n free free' : ℕ) (old new : List Node) (S S2 : ℕ → Best) → UndoesChange f R old S u → free' ≡ free → IsArena f old free → length old ≤ n + 1 →
-    ((j : ℕ) → j ≤ n → S2 j ≡ back u.changes.items S j) → Assigns u.hop u.len u.q old new → HalvesStay old new →
-    IsArena f new free' × KeepsBest f new S2 × (whole f new ≡ edited Route (bits_of u.len u.q) u.hop (whole f old))
-taken_back f R u n free free' old new S S2 t g a l made assigned stay =
+pub taken_back : (f : Family) (R : Table) (u : Undo) (n free free1 free' : ℕ) (old mid new : List Node) (S S2 S3 : ℕ → Best) → UndoesChange f R old S u → mid ≡ old → free1 ≡ free → free' ≡ free1 → S3 ≡ S2 → IsArena f old free → length old ≤ n + 1 →
+    ((j : ℕ) → j ≤ n → S2 j ≡ back u.changes.items S j) → Assigns u.hop u.len u.q mid new → HalvesStay mid new →
+    IsArena f new free' × KeepsBest f new S3 × (whole f new ≡ edited Route (bits_of u.len u.q) u.hop (whole f old))
+taken_back f R u n free free1 free' old mid new S S2 S3 t stays frees g kept a l made assigned stay =
     let F = λ (x : List Bool). lpm R x 0 in
     let k = best_carry (suc (width f)) old old (back u.changes.items S) S2 a.name F 0 [] a.tree (λ j r e b. (refl, made j (omega (arith, l, within_it old free a.spares j a.name r a.held e)))) t.best in
-    put_in f u.q u.len u.hop free free' old new S2 t.few g a t.allowed
-    (best_alike (suc (width f)) old S2 F (λ x. lpm (undone u (whole f old).routes) x 0) 0 (λ x z. ap (λ K. lpm K x 0) (sym t.routes)) k) assigned stay
+    let y = put_in f u.q u.len u.hop free free' old new S2 t.few (g ∙ frees) a t.allowed
+    (best_alike (suc (width f)) old S2 F (λ x. lpm (undone u (whole f old).routes) x 0) 0 (λ x z. ap (λ K. lpm K x 0) (sym t.routes)) k)
+    (subst (λ (cs : List Node). Assigns u.hop u.len u.q cs new) stays assigned) (subst (λ (cs : List Node). HalvesStay cs new) stays stay) in
+    (y.0, subst (λ (K : ℕ → Best). KeepsBest f new K) (sym kept) y.1, y.2)
 
 pub if_allowed : (p : List Bool) (o : Option ℕ) (nodes : List (List Bool)) → has_node p nodes ≡ true → CanEdit p o nodes
 if_allowed p None nodes h = tt

@@ -1,5 +1,5 @@
 -- What a place in the array of nodes stands for, and which places are whose.
-use Rattle.std.specs.Prelude.{◌≡◌, ◌≢◌, ℕ, zero, suc, ◌<◌, ◌≤◌, List, [], ◌∷◌, ◌++◌, length, Bool, true, false, Option, Some, None, slice_index_or}
+use Rattle.std.specs.Prelude.{◌≡◌, ◌≢◌, ℕ, zero, suc, ◌<◌, ◌≤◌, List, [], ◌∷◌, ◌++◌, length, Bool, true, false, Option, Some, None, slice_index_or, map}
 use Rattle.table_model.specs.Bits.{begins}
 use Rattle.table_model.specs.Width.{width}
 use Rattle.table_model.specs.declared.family.Family.{Family}
@@ -10,6 +10,7 @@ use Rattle.orig_tree.specs.declared.cover.Cover.{Cover}
 use Rattle.orig_tree.specs.Packed.{cover_slot, cover_in, bare_slot}
 use Rattle.orig_tree.specs.declared.cover.Hops.TheVariants.{Zero}
 use Rattle.orig_tree.specs.declared.node.Node.{Node}
+use Rattle.orig_tree.specs.declared.node.Place.{Place}
 use Rattle.orig_tree.specs.declared.node.Nodes.{Nodes}
 use Rattle.orig_tree.specs.declared.node.Label.{Label}
 use Rattle.orig_tree.specs.declared.node.Label.TheVariants.{Route, Entry}
@@ -18,7 +19,7 @@ use Rattle.orig_tree.specs.declared.node.Label.TheVariants.{Route, Entry}
 
 -- the nodes by their places
 abbrev pub cells_of : Nodes → List Node
-cells_of n = n.root ∷ n.halves.items
+cells_of n = map (λ (p : Place). p.node) (n.root ∷ n.halves.items)
 
 abbrev pub bare_cover_is : Cover
 bare_cover_is = record { passes = true; hops = Zero }

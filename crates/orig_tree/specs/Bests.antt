@@ -1,5 +1,5 @@
 -- What the nodes of a tree keep of their regions: the best hops, and what a region costs under one of them.
-use Rattle.std.specs.Prelude.{◌≡◌, ℕ, zero, suc, List, [], ◌∷◌, Bool, true, false, cond, nat_eq, Option, Some, None, slice_index_or}
+use Rattle.std.specs.Prelude.{◌≡◌, ℕ, zero, suc, List, [], ◌∷◌, Bool, true, false, cond, nat_eq, Option, Some, None, slice_index_or, map}
 use Rattle.table_model.specs.Bits.{begins}
 use Rattle.table_model.specs.Table.{Table, lpm, half}
 use Rattle.table_model.specs.Sets.{side, set_of, k_of}
@@ -8,11 +8,12 @@ use Rattle.orig_tree.specs.Edits.{put}
 use Rattle.table_model.specs.Width.{width}
 use Rattle.table_model.specs.declared.family.Family.{Family}
 use Rattle.orig_tree.specs.Walk.{Walks, edited, has_node}
-use Rattle.orig_tree.specs.Arena.{Owner, At, cell_at, half_place, IfHalf, whole, IsRoomier}
+use Rattle.orig_tree.specs.Arena.{Owner, At, blank_cell, cell_at, half_place, IfHalf, whole, IsRoomier}
 use Rattle.orig_tree.specs.declared.node.Label.{Label}
 use Rattle.orig_tree.specs.declared.node.Node.{Node}
 use Rattle.orig_tree.specs.declared.best.Best.{Best}
-use Rattle.orig_tree.specs.declared.best.Bests.{Bests}
+use Rattle.orig_tree.specs.declared.node.Place.{Place}
+use Rattle.orig_tree.specs.declared.node.Nodes.{Nodes}
 use Rattle.orig_tree.specs.declared.best.Change.{Change}
 
 -- a region of d more bits, whose addresses get the answers f, has these best hops and this cost
@@ -24,9 +25,16 @@ pub record IsRegionBest (d : ℕ) (f : List Bool → ℕ) (x : Best) : Type 0 wh
 abbrev pub best_one : ℕ → Best
 best_one h = record { hops = h ∷ []; k = 0 }
 
+-- a place that is no node's yet
+abbrev pub blank_place : Place
+blank_place = record { node = blank_cell; best = best_one 0 }
+
 -- what is kept, by places
-abbrev pub best_in : Bests → ℕ → Best
-best_in s i = slice_index_or (s.root ∷ s.halves.items) i (best_one 0)
+abbrev pub bests_of : Nodes → List Best
+bests_of n = map (λ (p : Place). p.best) (n.root ∷ n.halves.items)
+
+abbrev pub best_in : Nodes → ℕ → Best
+best_in n i = slice_index_or (bests_of n) i (best_one 0)
 
 -- the node at place i, of at most d levels, and each node below it keep what stands for their regions, where f tells the
 -- answers of the region of place i

@@ -1,15 +1,16 @@
 //! What nodes keep of their regions, by places: the best hops, and what the region costs under one of them.
 
-ghost use Rattle.std.specs.Prelude.{◌≡◌, ◌≢◌, ◌+◌, ◌<◌, ◌≤◌, ℕ, suc, List, Bool, true, false, cond, IfOk, OnOk, [], ◌∷◌, length, vec_len};
+ghost use Rattle.std.specs.Prelude.{◌≡◌, ◌≢◌, ◌+◌, ◌≤◌, ℕ, suc, List, Bool, true, false, cond, IfOk, [], ◌∷◌, length, vec_len, vec_capacity};
 ghost use Rattle.table_model.specs.Bits.{bits_of};
 ghost use Rattle.table_model.specs.Table.{lpm};
 ghost use Rattle.table_model.specs.Sets.{side};
 ghost use Rattle.orig_tree.specs.Edits.{edit, put};
-ghost use Rattle.orig_tree.specs.Bests.{IsRegionBest, best_one, best_in, best_behind, put_at, changed, back};
+ghost use Rattle.orig_tree.specs.Arena.{cells_of};
+ghost use Rattle.orig_tree.specs.Bests.{IsRegionBest, best_one, best_in, best_behind, changed, back};
 
+use crate::node::{Nodes, best_at, exchange};
 use fib_addr::HopSet;
 use std::alloc::{AllocError, Global};
-use std::mem;
 
 /// What a node keeps of its region: the hops under which a least table of the region costs least, and that cost, in entries;
 /// under any other hop it is one more.
@@ -19,14 +20,6 @@ pub struct Best {
     pub hops: HopSet,
     /// What the region costs under one of them.
     pub k: u64,
-}
-
-/// What all nodes keep, by their places. There may be more places than nodes.
-#[derive(Drop)]
-pub(crate) struct Bests {
-    pub(crate) root: Best,
-    /// What halves keep: that at place i, from 1 on, is at i - 1 here.
-    pub(crate) halves: Vec<Best>,
 }
 
 /// What a place is to keep.
@@ -123,27 +116,18 @@ fn beside(left: u8, inherited: u16, hop: u16) -> Best
     Best { hops, k: 1 }
 }
 
-/// What a place keeps, or what is given for a place that there isn't.
-pub(crate) fn best_at<'a>(bests: &'a Bests, i: usize, none: &'a Best) -> &'a Best
-    requires { none.now ≡ best_one 0 }
-    ensures { result.now ≡ best_in bests.now i }
-{
-    if i == 0 {
-        return &bests.root;
-    }
-    match bests.halves.get(i - 1) {
-        Some(best) => best,
-        None => none,
-    }
-}
-
 /// What a half keeps; where it is no node, what a region keeps whose addresses all get the hop.
-fn half_keeps<'a>(bests: &'a Bests, half: Option<usize>, none: &'a Best, bare: &'a Best) -> &'a Best
+pub(crate) fn half_keeps<'a>(
+    nodes: &'a Nodes,
+    half: Option<usize>,
+    none: &'a Best,
+    bare: &'a Best,
+) -> &'a Best
     requires { none.now ≡ best_one 0 }
-    ensures { result.now ≡ best_behind (best_in bests.now) half bare.now }
+    ensures { result.now ≡ best_behind (best_in nodes.now) half bare.now }
 {
     match half {
-        Some(j) => best_at(bests, j, none),
+        Some(j) => best_at(nodes, j, none),
         None => bare,
     }
 }
@@ -151,20 +135,20 @@ fn half_keeps<'a>(bests: &'a Bests, half: Option<usize>, none: &'a Best, bare: &
 /// What a node's region keeps, from what its halves keep.
 pub(crate) fn join_kept(
     alloc: Global,
-    bests: &Bests,
+    nodes: &Nodes,
     low: Option<usize>,
     high: Option<usize>,
     hop: u16,
 ) -> Result<Best, AllocError>
     ensures { IfOk result (λ x. (d : ℕ) (f : List Bool → ℕ)
-        → IsRegionBest d (side false f) (best_behind (best_in bests.now) low (best_one hop))
-        → IsRegionBest d (side true f) (best_behind (best_in bests.now) high (best_one hop))
+        → IsRegionBest d (side false f) (best_behind (best_in nodes.now) low (best_one hop))
+        → IsRegionBest d (side true f) (best_behind (best_in nodes.now) high (best_one hop))
         → IsRegionBest (suc d) f x) }
 {
     let none = Best::one(0);
     let bare = Best::one(hop);
-    let low = half_keeps(bests, low, &none, &bare);
-    let high = half_keeps(bests, high, &none, &bare);
+    let low = half_keeps(nodes, low, &none, &bare);
+    let high = half_keeps(nodes, high, &none, &bare);
     Best::joined(alloc, low, high)
 }
 
@@ -177,66 +161,32 @@ pub(crate) fn no_changes(mut spare: Vec<Change>, depth: u8) -> Result<Vec<Change
     Ok(spare)
 }
 
-/// Exchanges what a place keeps.
-pub(crate) fn exchange(bests: &mut Bests, i: usize, best: &mut Best)
-    ensures kept { (j : ℕ) → j ≤ vec_len bests.old.halves
-        → best_in bests.new j ≡ put_at (best_in bests.old) i best.old j }
-    ensures given { i ≤ vec_len bests.old.halves → best.new ≡ best_in bests.old i }
-    ensures put { i ≤ vec_len bests.old.halves → (j : ℕ)
-        → best_in bests.new j ≡ put_at (best_in bests.old) i best.old j }
-    ensures len { vec_len bests.new.halves ≡ vec_len bests.old.halves }
-{
-    if i == 0 {
-        mem::swap(&mut bests.root, best);
-    } else if i <= bests.halves.len() {
-        mem::swap(&mut bests.halves[i - 1], best);
-    }
-}
-
 /// Makes the changes, each in its turn. What the places kept is left in their stead.
-pub(crate) fn commit(bests: &mut Bests, changes: &mut Vec<Change>)
-    ensures kept { (j : ℕ) → j ≤ vec_len bests.old.halves
-        → best_in bests.new j ≡ changed changes.old.items (best_in bests.old) j }
-    ensures back { (j : ℕ) → j ≤ vec_len bests.old.halves
-        → back changes.new.items (best_in bests.new) j ≡ best_in bests.old j }
-    ensures len { vec_len bests.new.halves ≡ vec_len bests.old.halves }
+pub(crate) fn commit(nodes: &mut Nodes, changes: &mut Vec<Change>)
+    ensures kept { (j : ℕ) → j ≤ vec_len nodes.old.halves
+        → best_in nodes.new j ≡ changed changes.old.items (best_in nodes.old) j }
+    ensures back { (j : ℕ) → j ≤ vec_len nodes.old.halves
+        → back changes.new.items (best_in nodes.new) j ≡ best_in nodes.old j }
+    ensures cells { cells_of nodes.new ≡ cells_of nodes.old }
+    ensures free { nodes.new.free ≡ nodes.old.free }
+    ensures capacity { vec_capacity nodes.new.halves ≡ vec_capacity nodes.old.halves }
+    ensures len { vec_len nodes.new.halves ≡ vec_len nodes.old.halves }
 {
     for change in changes.iter_mut() {
-        exchange(bests, change.place, &mut change.best);
+        exchange(nodes, change.place, &mut change.best);
     }
 }
 
 /// Takes changes back, the last first, and hands back the room that they took. It takes no memory.
-pub(crate) fn revert(bests: &mut Bests, mut changes: Vec<Change>) -> Vec<Change>
-    ensures kept { (j : ℕ) → j ≤ vec_len bests.old.halves
-        → best_in bests.new j ≡ back changes.items (best_in bests.old) j }
-    ensures len { vec_len bests.new.halves ≡ vec_len bests.old.halves }
+pub(crate) fn revert(nodes: &mut Nodes, mut changes: Vec<Change>) -> Vec<Change>
+    ensures kept { (j : ℕ) → j ≤ vec_len nodes.old.halves
+        → best_in nodes.new j ≡ back changes.items (best_in nodes.old) j }
+    ensures cells { cells_of nodes.new ≡ cells_of nodes.old }
+    ensures free { nodes.new.free ≡ nodes.old.free }
+    ensures len { vec_len nodes.new.halves ≡ vec_len nodes.old.halves }
 {
     while let Some(mut last) = changes.pop() {
-        exchange(bests, last.place, &mut last.best);
+        exchange(nodes, last.place, &mut last.best);
     }
     changes
-}
-
-/// Makes more places, so many in all. None keeps anything else than before.
-pub(crate) fn lengthen(bests: &mut Bests, len: usize) -> Result<(), AllocError>
-    ensures kept { (j : ℕ) → best_in bests.new j ≡ best_in bests.old j }
-    ensures len { vec_len bests.old.halves ≤ vec_len bests.new.halves }
-    ensures ok { OnOk result (len ≤ vec_len bests.new.halves) }
-{
-    while bests.halves.len() < len {
-        bests.halves.push(Best::one(0))?;
-    }
-    Ok(())
-}
-
-/// What is kept where there is the root alone, and all addresses get none.
-pub(crate) fn root_best(alloc: Global) -> Bests
-    ensures kept { (i : ℕ) → best_in result i ≡ best_one 0 }
-    ensures alone { vec_len result.halves ≡ 0 }
-{
-    Bests {
-        root: Best::one(0),
-        halves: Vec::new(alloc),
-    }
 }

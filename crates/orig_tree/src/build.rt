@@ -18,9 +18,9 @@ ghost use Rattle.orig_tree.specs.Merged.{Lays};
 ghost use Rattle.orig_tree.specs.Built.{with_halves, Builds, BuildsHalf};
 ghost use Rattle.orig_tree.specs.declared.node.Label.TheVariants.{Route};
 
-use crate::best::{Best, Bests, exchange, join_kept};
+use crate::best::{Best, join_kept};
 use crate::merge::next_half;
-use crate::node::{Label, MOST, Node, Nodes, leaf, put, retell};
+use crate::node::{Label, MOST, Node, Nodes, bare_place, fill, leaf, retell};
 use crate::source::EntrySource;
 use fib_addr::{Family, Prefix};
 use std::alloc::{AllocError, Global};
@@ -44,49 +44,31 @@ fn take_own<S: EntrySource>(at: &Prefix, routes: &mut S) -> Option<u16>
 /// # Errors
 ///
 /// No memory, which comes too where there would be 2^31 nodes or more.
-fn take_place(nodes: &mut Nodes, bests: &mut Bests) -> Result<u32, AllocError>
-    requires same { vec_len nodes.old.halves ≡ vec_len bests.old.halves }
-    ensures same { OnOk result (vec_len nodes.new.halves ≡ vec_len bests.new.halves) }
+fn take_place(nodes: &mut Nodes) -> Result<u32, AllocError>
     ensures free { nodes.new.free ≡ nodes.old.free }
     ensures place { IfOk result (λ j. j ≡ length (cells_of nodes.old)) }
     ensures node { OnOk result (cells_of nodes.new ≡ cells_of nodes.old ++ (blank_cell ∷ [])) }
-    ensures kept { (j : ℕ) → best_in bests.new j ≡ best_in bests.old j }
+    ensures kept { (j : ℕ) → best_in nodes.new j ≡ best_in nodes.old j }
 {
     if nodes.halves.len() >= MOST {
         return Err(AllocError);
     }
-    nodes.halves.push(leaf())?;
-    bests.halves.push(Best::one(0))?;
+    nodes.halves.push(bare_place())?;
     Ok(nodes.halves.len() as u32)
 }
 
-/// Puts a node at its place, with what it keeps.
-fn fill(nodes: &mut Nodes, bests: &mut Bests, place: usize, node: Node, mut best: Best)
-    requires place { place ≤ vec_len bests.old.halves }
-    ensures node { cells_of nodes.new ≡ slice_set (cells_of nodes.old) place node }
-    ensures free { nodes.new.free ≡ nodes.old.free }
-    ensures len { vec_len nodes.new.halves ≡ vec_len nodes.old.halves }
-    ensures places { vec_len bests.new.halves ≡ vec_len bests.old.halves }
-    ensures best { best_in bests.new place ≡ best }
-    ensures others { (j : ℕ) → j ≢ place → best_in bests.new j ≡ best_in bests.old j }
-{
-    put(nodes, place, node);
-    exchange(bests, place, &mut best);
-}
-
 /// Puts the node of a region with its own route alone, or with none, whose addresses all get the hop, at its place.
-fn put_alone(nodes: &mut Nodes, bests: &mut Bests, place: usize, own: Option<u16>, hop: u16)
-    requires place { place ≤ vec_len bests.old.halves }
+fn put_alone(nodes: &mut Nodes, place: usize, own: Option<u16>, hop: u16)
+    requires place { place ≤ vec_len nodes.old.halves }
     ensures node { cells_of nodes.new ≡ slice_set (cells_of nodes.old) place (retold Route own
         bare_cover_is bare_cover_is blank_cell) }
     ensures free { nodes.new.free ≡ nodes.old.free }
     ensures len { vec_len nodes.new.halves ≡ vec_len nodes.old.halves }
-    ensures places { vec_len bests.new.halves ≡ vec_len bests.old.halves }
-    ensures best { best_in bests.new place ≡ best_one hop }
-    ensures others { (j : ℕ) → j ≢ place → best_in bests.new j ≡ best_in bests.old j }
+    ensures best { best_in nodes.new place ≡ best_one hop }
+    ensures others { (j : ℕ) → j ≢ place → best_in nodes.new j ≡ best_in nodes.old j }
 {
     let node = retell(nodes, leaf(), Label::Route, own);
-    fill(nodes, bests, place, node, Best::one(hop));
+    fill(nodes, place, node, Best::one(hop));
 }
 
 /// Puts the node of a region with its own route, or with none, at its place, from its halves, which were built and whose places are
@@ -94,34 +76,32 @@ fn put_alone(nodes: &mut Nodes, bests: &mut Bests, place: usize, own: Option<u16
 fn put_over(
     alloc: Global,
     nodes: &mut Nodes,
-    bests: &mut Bests,
     place: usize,
     own: Option<u16>,
     hop: u16,
     low: u32,
     high: u32,
 ) -> Result<(), AllocError>
-    requires place { place ≤ vec_len bests.old.halves }
+    requires place { place ≤ vec_len nodes.old.halves }
     ensures node { OnOk result (cells_of nodes.new ≡ slice_set (cells_of nodes.old) place (retold
         Route own (cover_at (cells_of nodes.old) Route (link low)) (cover_at (cells_of nodes.old) Route
         (link high)) (with_halves low high))) }
     ensures free { nodes.new.free ≡ nodes.old.free }
     ensures len { vec_len nodes.new.halves ≡ vec_len nodes.old.halves }
-    ensures places { vec_len bests.new.halves ≡ vec_len bests.old.halves }
     ensures best { OnOk result ((d : ℕ) (f : List Bool → ℕ)
-        → IsRegionBest d (side false f) (best_behind (best_in bests.old) (link low) (best_one hop))
-        → IsRegionBest d (side true f) (best_behind (best_in bests.old) (link high) (best_one hop))
-        → IsRegionBest (suc d) f (best_in bests.new place)) }
-    ensures others { OnOk result ((j : ℕ) → j ≢ place → best_in bests.new j ≡ best_in bests.old j) }
+        → IsRegionBest d (side false f) (best_behind (best_in nodes.old) (link low) (best_one hop))
+        → IsRegionBest d (side true f) (best_behind (best_in nodes.old) (link high) (best_one hop))
+        → IsRegionBest (suc d) f (best_in nodes.new place)) }
+    ensures others { OnOk result ((j : ℕ) → j ≢ place → best_in nodes.new j ≡ best_in nodes.old j) }
 {
     let halves = Node {
         low,
         high,
         ..leaf()
     };
-    let best = join_kept(alloc, bests, halves.half(false), halves.half(true), hop)?;
+    let best = join_kept(alloc, nodes, halves.half(false), halves.half(true), hop)?;
     let node = retell(nodes, halves, Label::Route, own);
-    fill(nodes, bests, place, node, best);
+    fill(nodes, place, node, best);
     Ok(())
 }
 
@@ -135,44 +115,41 @@ fn put_over(
 fn build<S: EntrySource>(
     alloc: Global,
     nodes: &mut Nodes,
-    bests: &mut Bests,
     place: usize,
     at: &Prefix,
     inherited: u16,
     routes: &mut S,
 ) -> Result<(), AllocError>
-    requires place { place ≤ vec_len bests.old.halves }
-    requires same { vec_len nodes.old.halves ≡ vec_len bests.old.halves }
-    ensures same { OnOk result (vec_len nodes.new.halves ≡ vec_len bests.new.halves) }
+    requires place { place ≤ vec_len nodes.old.halves }
     ensures more { OnOk result (vec_len nodes.old.halves ≤ vec_len nodes.new.halves) }
     ensures built { OnOk result (Builds inherited (width at.now.family - at.now.len) (prefix_as at.now)
-        place (cells_of nodes.old) (cells_of nodes.new) nodes.old.free nodes.new.free (best_in bests.old)
-        (best_in bests.new) (S.left routes.old) (S.left routes.new)) }
+        place (cells_of nodes.old) (cells_of nodes.new) nodes.old.free nodes.new.free (best_in nodes.old)
+        (best_in nodes.new) (S.left routes.old) (S.left routes.new)) }
 {
     let own = take_own(at, routes);
     let hop = own.unwrap_or(inherited);
     if at.len == at.family.width() {
-        put_alone(nodes, bests, place, own, hop);
+        put_alone(nodes, place, own, hop);
         return Ok(());
     }
     match next_half(routes, at) {
         None => {
-            put_alone(nodes, bests, place, own, hop);
+            put_alone(nodes, place, own, hop);
             Ok(())
         }
         Some(true) => {
-            let high = build_half(alloc, nodes, bests, at, true, hop, routes)?;
-            put_over(alloc, nodes, bests, place, own, hop, 0, high)?;
+            let high = build_half(alloc, nodes, at, true, hop, routes)?;
+            put_over(alloc, nodes, place, own, hop, 0, high)?;
             Ok(())
         }
         Some(false) => {
-            let low = build_half(alloc, nodes, bests, at, false, hop, routes)?;
+            let low = build_half(alloc, nodes, at, false, hop, routes)?;
             let Some(true) = next_half(routes, at) else {
-                put_over(alloc, nodes, bests, place, own, hop, low, 0)?;
+                put_over(alloc, nodes, place, own, hop, low, 0)?;
                 return Ok(());
             };
-            let high = build_half(alloc, nodes, bests, at, true, hop, routes)?;
-            put_over(alloc, nodes, bests, place, own, hop, low, high)?;
+            let high = build_half(alloc, nodes, at, true, hop, routes)?;
+            put_over(alloc, nodes, place, own, hop, low, high)?;
             Ok(())
         }
     }
@@ -184,32 +161,21 @@ fn build<S: EntrySource>(
 fn build_half<S: EntrySource>(
     alloc: Global,
     nodes: &mut Nodes,
-    bests: &mut Bests,
     at: &Prefix,
     bit: bool,
     inherited: u16,
     routes: &mut S,
 ) -> Result<u32, AllocError>
     requires longer { at.now.len < width at.now.family }
-    requires same { vec_len nodes.old.halves ≡ vec_len bests.old.halves }
-    ensures same { OnOk result (vec_len nodes.new.halves ≡ vec_len bests.new.halves) }
     ensures more { OnOk result (vec_len nodes.old.halves ≤ vec_len nodes.new.halves) }
     ensures built { IfOk result (λ place. BuildsHalf inherited (width at.now.family - at.now.len - 1)
         (half_at bit (prefix_as at.now)) (cells_of nodes.old) (cells_of nodes.new) nodes.old.free
-        nodes.new.free (best_in bests.old) (best_in bests.new) (S.left routes.old)
+        nodes.new.free (best_in nodes.old) (best_in nodes.new) (S.left routes.old)
         (S.left routes.new) (link place)) }
 {
-    let place = take_place(nodes, bests)?;
+    let place = take_place(nodes)?;
     let half = at.half(bit);
-    build(
-        alloc,
-        nodes,
-        bests,
-        place as usize,
-        &half,
-        inherited,
-        routes,
-    )?;
+    build(alloc, nodes, place as usize, &half, inherited, routes)?;
     Ok(place)
 }
 
@@ -222,19 +188,16 @@ pub(crate) fn build_all<S: EntrySource>(
     alloc: Global,
     family: Family,
     nodes: &mut Nodes,
-    bests: &mut Bests,
     routes: &mut S,
 ) -> Result<(), AllocError>
     requires arena { IsArena family (cells_of nodes.old) nodes.old.free }
     requires bare { cells_of nodes.old ≡ blank_cell ∷ [] }
-    requires same { vec_len nodes.old.halves ≡ vec_len bests.old.halves }
     requires prefixes { AllByRecursion IsPrefix (keys_of (S.left routes.old)) }
-    ensures same { OnOk result (vec_len nodes.new.halves ≡ vec_len bests.new.halves) }
     ensures lays { OnOk result (Lays family Route (cells_of nodes.old) (cells_of nodes.new)
-        nodes.new.free (best_in bests.old) (best_in bests.new) (S.left routes.old) (S.left routes.new)) }
-    ensures best { OnOk result (KeepsBest family (cells_of nodes.new) (best_in bests.new)) }
+        nodes.new.free (best_in nodes.old) (best_in nodes.new) (S.left routes.old) (S.left routes.new)) }
+    ensures best { OnOk result (KeepsBest family (cells_of nodes.new) (best_in nodes.new)) }
 {
     let root = Prefix::whole(family);
-    build(alloc, nodes, bests, 0, &root, 0, routes)?;
+    build(alloc, nodes, 0, &root, 0, routes)?;
     Ok(())
 }

@@ -4,6 +4,7 @@ ghost use Rattle.std.specs.Prelude.{◌≡◌, ◌≤◌, ◌+◌, ◌||◌, ℕ
 ghost use Rattle.std.specs.Option.{is_some};
 ghost use Rattle.table_model.specs.Bits.{bits_of};
 ghost use Rattle.orig_tree.specs.Arena.{cells_of, Owner, link, IsTree, HasSpares, IfHalf};
+ghost use Rattle.orig_tree.specs.Bests.{bests_of};
 ghost use Rattle.orig_tree.specs.Drops.{with_halves, spare_node, NodeTrimmed, HalfTrimmed};
 
 use crate::node::{Node, Nodes, leaf, put, read};
@@ -49,6 +50,7 @@ fn give(nodes: &mut Nodes, place: u32)
     ensures cells { cells_of nodes.new
         ≡ slice_set (cells_of nodes.old) place (spare_node nodes.old.free) }
     ensures free { nodes.new.free ≡ place }
+    ensures kept { bests_of nodes.new ≡ bests_of nodes.old }
     ensures len { vec_len nodes.new.halves ≡ vec_len nodes.old.halves }
 {
     let node = spare(nodes.free);
@@ -61,6 +63,7 @@ fn settle(nodes: &mut Nodes, i: usize, node: Node, low: bool, high: bool)
     ensures cells { cells_of nodes.new
         ≡ slice_set (cells_of nodes.old) i (with_halves node low high) }
     ensures free { nodes.new.free ≡ nodes.old.free }
+    ensures kept { bests_of nodes.new ≡ bests_of nodes.old }
     ensures len { vec_len nodes.new.halves ≡ vec_len nodes.old.halves }
 {
     let new = keep_halves(node, low, high);
@@ -81,6 +84,7 @@ fn prune(nodes: &mut Nodes, i: usize, depth: u8) -> bool
         → IsTree d (cells_of nodes.old) name i p → HasSpares (cells_of nodes.old) nodes.old.free name
         spares → NodeTrimmed d [] (cells_of nodes.old) (cells_of nodes.new) nodes.new.free name i p
         result }
+    ensures kept { bests_of nodes.new ≡ bests_of nodes.old }
     ensures len { vec_len nodes.new.halves ≡ vec_len nodes.old.halves }
 {
     let node = read(nodes, i);
@@ -98,6 +102,7 @@ fn prune_half(nodes: &mut Nodes, half: u32, depth: u8) -> bool
         → HasSpares (cells_of nodes.old) nodes.old.free name spares
         → HalfTrimmed d [] (cells_of nodes.old) (cells_of nodes.new) nodes.new.free name (link half) p
         result }
+    ensures kept { bests_of nodes.new ≡ bests_of nodes.old }
     ensures len { vec_len nodes.new.halves ≡ vec_len nodes.old.halves }
 {
     if half == 0 {
@@ -122,6 +127,7 @@ pub(crate) fn trim(nodes: &mut Nodes, i: usize, q: u128, left: u8, depth: u8) ->
         → IsTree d (cells_of nodes.old) name i p → HasSpares (cells_of nodes.old) nodes.old.free name
         spares → NodeTrimmed d (bits_of left q) (cells_of nodes.old) (cells_of nodes.new)
         nodes.new.free name i p result }
+    ensures kept { bests_of nodes.new ≡ bests_of nodes.old }
     ensures len { vec_len nodes.new.halves ≡ vec_len nodes.old.halves }
 {
     if left == 0 {
@@ -148,6 +154,7 @@ fn trim_half(nodes: &mut Nodes, half: u32, q: u128, left: u8, depth: u8) -> bool
         → HasSpares (cells_of nodes.old) nodes.old.free name spares
         → HalfTrimmed d (bits_of left q) (cells_of nodes.old) (cells_of nodes.new) nodes.new.free
         name (link half) p result }
+    ensures kept { bests_of nodes.new ≡ bests_of nodes.old }
     ensures len { vec_len nodes.new.halves ≡ vec_len nodes.old.halves }
 {
     if half == 0 {

@@ -17,10 +17,10 @@ ghost use Rattle.orig_tree.specs.Bests.{best_one, best_in, best_behind, KeepsBes
 ghost use Rattle.orig_tree.specs.Merged.{own_of, Lays};
 ghost use Rattle.orig_tree.specs.declared.node.Label.TheVariants.{Route};
 
-use crate::best::{Best, Bests, exchange, join_kept};
+use crate::best::{Best, join_kept};
 use crate::build::build_all;
 use crate::merge::merge;
-use crate::node::{Label, Nodes, read, set_label};
+use crate::node::{Label, Nodes, exchange, read, set_label};
 use crate::path::path_bits;
 use crate::source::EntrySource;
 use fib_addr::{Entry, Family, Prefix};
@@ -54,16 +54,13 @@ fn skip_others<S: EntrySource>(family: Family, entries: &mut S)
 fn insert_one(
     family: Family,
     nodes: &mut Nodes,
-    bests: &mut Bests,
     label: Label,
     entry: &Entry,
 ) -> Result<(), AllocError>
     requires arena { IsArena family (cells_of nodes.old) nodes.old.free }
-    requires long { vec_len nodes.old.halves ≤ vec_len bests.old.halves }
     requires order { InPlace (of_table family (rows_of label (whole family (cells_of nodes.old)))) }
-    ensures long { vec_len nodes.new.halves ≤ vec_len bests.new.halves }
-    ensures lays { OnOk result ((rest : Entries) → Lays family label (cells_of nodes.old) (cells_of
-        nodes.new) nodes.new.free (best_in bests.old) (best_in bests.new)
+    ensures { OnOk result ((rest : Entries) → Lays family label (cells_of nodes.old) (cells_of
+        nodes.new) nodes.new.free (best_in nodes.old) (best_in nodes.new)
         (entry_as entry.now ∷ rest) rest) }
 {
     if !is_of(entry, family) {
@@ -71,7 +68,7 @@ fn insert_one(
     }
     let prefix = &entry.prefix;
     let q = path_bits(prefix);
-    set_label(nodes, bests, 0, q, prefix.len, 0, label, entry.hop.0)?;
+    set_label(nodes, 0, q, prefix.len, 0, label, entry.hop.0)?;
     Ok(())
 }
 
@@ -85,23 +82,20 @@ fn insert_one(
 pub(crate) fn insert_all(
     family: Family,
     nodes: &mut Nodes,
-    bests: &mut Bests,
     label: Label,
     entries: &[Entry],
 ) -> Result<(), AllocError>
     requires arena { IsArena family (cells_of nodes.old) nodes.old.free }
-    requires long { vec_len nodes.old.halves ≤ vec_len bests.old.halves }
     requires order { InPlace (of_table family (rows_of label (whole family (cells_of nodes.old)))) }
-    ensures long { vec_len nodes.new.halves ≤ vec_len bests.new.halves }
-    ensures lays { OnOk result (Lays family label (cells_of nodes.old) (cells_of nodes.new)
-        nodes.new.free (best_in bests.old) (best_in bests.new) (map entry_as entries.now) []) }
+    ensures { OnOk result (Lays family label (cells_of nodes.old) (cells_of nodes.new)
+        nodes.new.free (best_in nodes.old) (best_in nodes.new) (map entry_as entries.now) []) }
 {
     let root = Prefix::whole(family);
     let mut left = entries;
     while let [first, rest @ ..] = left {
-        insert_one(family, nodes, bests, label, first)?;
+        insert_one(family, nodes, label, first)?;
         left = rest;
-        merge(nodes, bests, 0, &root, 0, label, &mut left)?;
+        merge(nodes, 0, &root, 0, label, &mut left)?;
     }
     Ok(())
 }
@@ -110,32 +104,32 @@ pub(crate) fn insert_all(
 #[cycle(settle)]
 pub(crate) fn settle(
     alloc: Global,
-    nodes: &Nodes,
-    bests: &mut Bests,
+    nodes: &mut Nodes,
     i: usize,
     inherited: u16,
     depth: u8,
 ) -> Result<(), AllocError>
-    requires long { vec_len nodes.now.halves ≤ vec_len bests.old.halves }
-    ensures long { vec_len bests.new.halves ≡ vec_len bests.old.halves }
+    ensures cells { cells_of nodes.new ≡ cells_of nodes.old }
+    ensures free { nodes.new.free ≡ nodes.old.free }
+    ensures len { vec_len nodes.new.halves ≡ vec_len nodes.old.halves }
     ensures best { OnOk result ((name : ℕ → Owner) (p : List Bool)
-        → IsTree (suc depth) (cells_of nodes.now) name i p → IsMended depth (cells_of nodes.now) name i
-        p (λ a. lpm (walks_at (suc depth) (cells_of nodes.now) i).routes a inherited) (best_in
-        bests.old) (best_in bests.new) (best_in bests.new i)) }
+        → IsTree (suc depth) (cells_of nodes.old) name i p → IsMended depth (cells_of nodes.old) name i
+        p (λ a. lpm (walks_at (suc depth) (cells_of nodes.old) i).routes a inherited) (best_in
+        nodes.old) (best_in nodes.new) (best_in nodes.new i)) }
 {
     let node = read(nodes, i);
     let hop = node.route.hop.unwrap_or(inherited);
     if depth == 0 {
         let mut best = Best::one(hop);
-        exchange(bests, i, &mut best);
+        exchange(nodes, i, &mut best);
         return Ok(());
     }
     let low = node.half(false);
     let high = node.half(true);
-    settle_half(alloc, nodes, bests, low, hop, depth - 1)?;
-    settle_half(alloc, nodes, bests, high, hop, depth - 1)?;
-    let mut best = join_kept(alloc, bests, low, high, hop)?;
-    exchange(bests, i, &mut best);
+    settle_half(alloc, nodes, low, hop, depth - 1)?;
+    settle_half(alloc, nodes, high, hop, depth - 1)?;
+    let mut best = join_kept(alloc, nodes, low, high, hop)?;
+    exchange(nodes, i, &mut best);
     Ok(())
 }
 
@@ -143,40 +137,36 @@ pub(crate) fn settle(
 #[cycle(settle)]
 fn settle_half(
     alloc: Global,
-    nodes: &Nodes,
-    bests: &mut Bests,
+    nodes: &mut Nodes,
     half: Option<usize>,
     inherited: u16,
     depth: u8,
 ) -> Result<(), AllocError>
-    requires long { vec_len nodes.now.halves ≤ vec_len bests.old.halves }
-    ensures long { vec_len bests.new.halves ≡ vec_len bests.old.halves }
+    ensures cells { cells_of nodes.new ≡ cells_of nodes.old }
+    ensures free { nodes.new.free ≡ nodes.old.free }
+    ensures len { vec_len nodes.new.halves ≡ vec_len nodes.old.halves }
     ensures best { OnOk result ((name : ℕ → Owner) (p : List Bool)
-        → IfHalf (λ j. IsTree (suc depth) (cells_of nodes.now) name j p) half
-        → HalfMended depth (cells_of nodes.now) name half p (λ a. lpm (from_half (walks_at (suc depth)
-        (cells_of nodes.now)) half).routes a inherited) (best_in bests.old) (best_in bests.new)
-        (best_behind (best_in bests.new) half (best_one inherited))) }
+        → IfHalf (λ j. IsTree (suc depth) (cells_of nodes.old) name j p) half
+        → HalfMended depth (cells_of nodes.old) name half p (λ a. lpm (from_half (walks_at (suc depth)
+        (cells_of nodes.old)) half).routes a inherited) (best_in nodes.old) (best_in nodes.new)
+        (best_behind (best_in nodes.new) half (best_one inherited))) }
 {
     match half {
         None => Ok(()),
-        Some(j) => settle(alloc, nodes, bests, j, inherited, depth),
+        Some(j) => settle(alloc, nodes, j, inherited, depth),
     }
 }
 
 /// Tells what all nodes keep.
-pub(crate) fn settle_all(
-    alloc: Global,
-    family: Family,
-    nodes: &Nodes,
-    bests: &mut Bests,
-) -> Result<(), AllocError>
-    requires arena { IsArena family (cells_of nodes.now) nodes.now.free }
-    requires long { vec_len nodes.now.halves ≤ vec_len bests.old.halves }
-    ensures long { vec_len nodes.now.halves ≤ vec_len bests.new.halves }
-    ensures best { OnOk result (KeepsBest family (cells_of nodes.now) (best_in bests.new)) }
+pub(crate) fn settle_all(alloc: Global, family: Family, nodes: &mut Nodes) -> Result<(), AllocError>
+    requires arena { IsArena family (cells_of nodes.old) nodes.old.free }
+    ensures cells { cells_of nodes.new ≡ cells_of nodes.old }
+    ensures free { nodes.new.free ≡ nodes.old.free }
+    ensures len { vec_len nodes.new.halves ≡ vec_len nodes.old.halves }
+    ensures best { OnOk result (KeepsBest family (cells_of nodes.new) (best_in nodes.new)) }
 {
     let depth = family.width();
-    settle(alloc, nodes, bests, 0, 0, depth)?;
+    settle(alloc, nodes, 0, 0, depth)?;
     Ok(())
 }
 
@@ -188,18 +178,15 @@ pub(crate) fn settle_all(
 fn insert_rest<S: EntrySource>(
     family: Family,
     nodes: &mut Nodes,
-    bests: &mut Bests,
     routes: &mut S,
 ) -> Result<(), AllocError>
     requires arena { IsArena family (cells_of nodes.old) nodes.old.free }
-    requires long { vec_len nodes.old.halves ≤ vec_len bests.old.halves }
     requires order { InPlace (of_table family (rows_of Route (whole family (cells_of nodes.old)))) }
-    ensures long { vec_len nodes.new.halves ≤ vec_len bests.new.halves }
-    ensures lays { OnOk result (Lays family Route (cells_of nodes.old) (cells_of nodes.new)
-        nodes.new.free (best_in bests.old) (best_in bests.new) (S.left routes.old) []) }
+    ensures { OnOk result (Lays family Route (cells_of nodes.old) (cells_of nodes.new)
+        nodes.new.free (best_in nodes.old) (best_in nodes.new) (S.left routes.old) []) }
 {
     while let Some(first) = routes.first() {
-        insert_one(family, nodes, bests, Label::Route, &first)?;
+        insert_one(family, nodes, Label::Route, &first)?;
         routes.pass();
     }
     Ok(())
@@ -216,25 +203,22 @@ pub(crate) fn load_all<S: EntrySource>(
     alloc: Global,
     family: Family,
     nodes: &mut Nodes,
-    bests: &mut Bests,
     routes: &mut S,
 ) -> Result<(), AllocError>
     requires arena { IsArena family (cells_of nodes.old) nodes.old.free }
     requires bare { cells_of nodes.old ≡ blank_cell ∷ [] }
-    requires none { vec_len bests.old.halves ≡ 0 }
     requires prefixes { AllByRecursion IsPrefix (keys_of (S.left routes.old)) }
-    ensures long { OnOk result (vec_len nodes.new.halves ≤ vec_len bests.new.halves) }
     ensures lays { OnOk result (Lays family Route (cells_of nodes.old) (cells_of nodes.new)
-        nodes.new.free (best_in bests.old) (best_in bests.new) (S.left routes.old) []) }
-    ensures best { OnOk result (KeepsBest family (cells_of nodes.new) (best_in bests.new)) }
+        nodes.new.free (best_in nodes.old) (best_in nodes.new) (S.left routes.old) []) }
+    ensures best { OnOk result (KeepsBest family (cells_of nodes.new) (best_in nodes.new)) }
 {
     skip_others(family, routes);
-    build_all(alloc, family, nodes, bests, routes)?;
+    build_all(alloc, family, nodes, routes)?;
     skip_others(family, routes);
     if routes.first().is_none() {
         return Ok(());
     }
-    insert_rest(family, nodes, bests, routes)?;
-    settle_all(alloc, family, nodes, bests)?;
+    insert_rest(family, nodes, routes)?;
+    settle_all(alloc, family, nodes)?;
     Ok(())
 }

@@ -16,9 +16,9 @@ ghost use Rattle.orig_tree.specs.Within.{nodes_in};
 ghost use Rattle.orig_tree.specs.Steps.{new_nodes, new_behind};
 ghost use Rattle.orig_tree.specs.Bests.{IsRegionBest, best_one, best_in, best_behind, kept_or, changed, under, AreBest, Untouched, IsMended, HalfMended};
 
-use crate::best::{Best, Bests, Change, best_at, fresh};
+use crate::best::{Best, Change, fresh, half_keeps};
 use crate::counter::Counter;
-use crate::node::{Node, Nodes, read};
+use crate::node::{Node, Nodes, best_at, read};
 use fib_addr::bit_at;
 use std::alloc::{AllocError, Global};
 
@@ -29,17 +29,6 @@ fn note(alloc: Global, place: usize, best: &Best, out: &mut Vec<Change>) -> Resu
     let best = best.copied(alloc)?;
     out.push(Change { place, best })?;
     Ok(())
-}
-
-/// What a half keeps; where it is no node, what is given for that.
-fn half_best<'a>(bests: &'a Bests, half: Option<usize>, none: &'a Best, bare: &'a Best) -> &'a Best
-    requires { none.now ≡ best_one 0 }
-    ensures { result.now ≡ best_behind (best_in bests.now) half bare.now }
-{
-    match half {
-        Some(j) => best_at(bests, j, none),
-        None => bare,
-    }
 }
 
 /// What a region keeps, from what the half of a bit keeps and the other half.
@@ -59,7 +48,6 @@ fn join_sides(alloc: Global, bit: bool, near: &Best, far: &Best) -> Result<Best,
 fn mend<C: Counter>(
     alloc: Global,
     nodes: &Nodes,
-    bests: &Bests,
     i: usize,
     hop: u16,
     depth: u8,
@@ -68,12 +56,12 @@ fn mend<C: Counter>(
 ) -> Result<Best, AllocError>
     ensures best { IfOk result (λ x. (name : ℕ → Owner) (p : List Bool) (h : ℕ)
         → IsTree (suc depth) (cells_of nodes.now) name i p
-        → AreBest (suc depth) (cells_of nodes.now) (best_in bests.now) (λ a. lpm (walks_at (suc depth)
+        → AreBest (suc depth) (cells_of nodes.now) (best_in nodes.now) (λ a. lpm (walks_at (suc depth)
         (cells_of nodes.now) i).routes a h) i
-        → Untouched p name (best_in bests.now) (changed out.old.items (best_in bests.now))
+        → Untouched p name (best_in nodes.now) (changed out.old.items (best_in nodes.now))
         → IsMended depth (cells_of nodes.now) name i p (under hop (walks_at (suc depth) (cells_of
-        nodes.now) i).routes) (changed out.old.items (best_in bests.now)) (changed out.new.items
-        (best_in bests.now)) x) }
+        nodes.now) i).routes) (changed out.old.items (best_in nodes.now)) (changed out.new.items
+        (best_in nodes.now)) x) }
     ensures steps { C.count steps.new ≤ C.count steps.old + length (walks_at (suc depth) (cells_of
         nodes.now) i).nodes }
 {
@@ -84,26 +72,8 @@ fn mend<C: Counter>(
         return Ok(best);
     }
     let node = read(nodes, i);
-    let low = mend_half(
-        alloc,
-        nodes,
-        bests,
-        node.half(false),
-        hop,
-        depth - 1,
-        out,
-        steps,
-    )?;
-    let high = mend_half(
-        alloc,
-        nodes,
-        bests,
-        node.half(true),
-        hop,
-        depth - 1,
-        out,
-        steps,
-    )?;
+    let low = mend_half(alloc, nodes, node.half(false), hop, depth - 1, out, steps)?;
+    let high = mend_half(alloc, nodes, node.half(true), hop, depth - 1, out, steps)?;
     steps.tick();
     let best = Best::joined(alloc, &low, &high)?;
     note(alloc, i, &best, out)?;
@@ -123,7 +93,6 @@ fn is_open(node: Node) -> bool
 fn mend_half<C: Counter>(
     alloc: Global,
     nodes: &Nodes,
-    bests: &Bests,
     half: Option<usize>,
     hop: u16,
     depth: u8,
@@ -132,12 +101,12 @@ fn mend_half<C: Counter>(
 ) -> Result<Best, AllocError>
     ensures best { IfOk result (λ x. (name : ℕ → Owner) (p : List Bool) (h : ℕ)
         → IfHalf (λ j. IsTree (suc depth) (cells_of nodes.now) name j p) half
-        → IfHalf (λ j. AreBest (suc depth) (cells_of nodes.now) (best_in bests.now) (λ a. lpm (walks_at
+        → IfHalf (λ j. AreBest (suc depth) (cells_of nodes.now) (best_in nodes.now) (λ a. lpm (walks_at
         (suc depth) (cells_of nodes.now) j).routes a h) j) half
-        → Untouched p name (best_in bests.now) (changed out.old.items (best_in bests.now))
+        → Untouched p name (best_in nodes.now) (changed out.old.items (best_in nodes.now))
         → HalfMended depth (cells_of nodes.now) name half p (λ a. lpm (from_half (walks_at (suc depth)
-        (cells_of nodes.now)) half).routes a hop) (changed out.old.items (best_in bests.now))
-        (changed out.new.items (best_in bests.now)) x) }
+        (cells_of nodes.now)) half).routes a hop) (changed out.old.items (best_in nodes.now))
+        (changed out.new.items (best_in nodes.now)) x) }
     ensures steps { C.count steps.new ≤ C.count steps.old + length (from_half (walks_at (suc depth)
         (cells_of nodes.now)) half).nodes }
 {
@@ -145,10 +114,10 @@ fn mend_half<C: Counter>(
         None => Ok(Best::one(hop)),
         Some(j) => {
             if is_open(read(nodes, j)) {
-                return mend(alloc, nodes, bests, j, hop, depth, out, steps);
+                return mend(alloc, nodes, j, hop, depth, out, steps);
             }
             let none = Best::one(0);
-            best_at(bests, j, &none).copied(alloc)
+            best_at(nodes, j, &none).copied(alloc)
         }
     }
 }
@@ -160,7 +129,6 @@ fn mend_half<C: Counter>(
 pub(crate) fn plan<C: Counter>(
     alloc: Global,
     nodes: &Nodes,
-    bests: &Bests,
     i: usize,
     q: u128,
     left: u8,
@@ -174,27 +142,18 @@ pub(crate) fn plan<C: Counter>(
     requires most { depth ≤ 128 }
     ensures best { IfOk result (λ x. (name : ℕ → Owner) (p : List Bool)
         → IsTree (suc depth) (cells_of nodes.now) name i p
-        → AreBest (suc depth) (cells_of nodes.now) (best_in bests.now) (λ a. lpm (walks_at (suc depth)
+        → AreBest (suc depth) (cells_of nodes.now) (best_in nodes.now) (λ a. lpm (walks_at (suc depth)
         (cells_of nodes.now) i).routes a inherited) i
-        → Untouched p name (best_in bests.now) (changed out.old.items (best_in bests.now))
+        → Untouched p name (best_in nodes.now) (changed out.old.items (best_in nodes.now))
         → IsMended depth (cells_of nodes.now) name i p (λ a. lpm (edit (bits_of left q) set (walks_at
         (suc depth) (cells_of nodes.now) i).routes) a inherited) (changed out.old.items (best_in
-        bests.now)) (changed out.new.items (best_in bests.now)) (kept_or x (best_in bests.now i))) }
+        nodes.now)) (changed out.new.items (best_in nodes.now)) (kept_or x (best_in nodes.now i))) }
     ensures steps { C.count steps.new + new_nodes (cells_of nodes.now) (bits_of left q) i
         ≤ C.count steps.old + left + 1 + nodes_in (bits_of left q) (walks_at (suc depth) (cells_of
         nodes.now) i).nodes }
 {
     if left == 0 {
-        let mended = mend(
-            alloc,
-            nodes,
-            bests,
-            i,
-            set.unwrap_or(inherited),
-            depth,
-            out,
-            steps,
-        )?;
+        let mended = mend(alloc, nodes, i, set.unwrap_or(inherited), depth, out, steps)?;
         return Ok(Some(mended));
     }
     let node = read(nodes, i);
@@ -204,7 +163,6 @@ pub(crate) fn plan<C: Counter>(
     let planned = plan_half(
         alloc,
         nodes,
-        bests,
         node.half(bit),
         q,
         at,
@@ -219,10 +177,10 @@ pub(crate) fn plan<C: Counter>(
     };
     let none = Best::one(0);
     let bare = Best::one(hop);
-    let far = half_best(bests, node.half(!bit), &none, &bare);
+    let far = half_keeps(nodes, node.half(!bit), &none, &bare);
     steps.tick();
     let best = join_sides(alloc, bit, &near, far)?;
-    if best.is_same(best_at(bests, i, &none)) {
+    if best.is_same(best_at(nodes, i, &none)) {
         return Ok(None);
     }
     note(alloc, i, &best, out)?;
@@ -234,7 +192,6 @@ pub(crate) fn plan<C: Counter>(
 fn plan_half<C: Counter>(
     alloc: Global,
     nodes: &Nodes,
-    bests: &Bests,
     half: Option<usize>,
     q: u128,
     left: u8,
@@ -248,21 +205,19 @@ fn plan_half<C: Counter>(
     requires most { depth ≤ 128 }
     ensures best { IfOk result (λ x. (name : ℕ → Owner) (p : List Bool)
         → IfHalf (λ j. IsTree (suc depth) (cells_of nodes.now) name j p) half
-        → IfHalf (λ j. AreBest (suc depth) (cells_of nodes.now) (best_in bests.now) (λ a. lpm (walks_at
+        → IfHalf (λ j. AreBest (suc depth) (cells_of nodes.now) (best_in nodes.now) (λ a. lpm (walks_at
         (suc depth) (cells_of nodes.now) j).routes a inherited) j) half
-        → Untouched p name (best_in bests.now) (changed out.old.items (best_in bests.now))
+        → Untouched p name (best_in nodes.now) (changed out.old.items (best_in nodes.now))
         → HalfMended depth (cells_of nodes.now) name half p (λ a. lpm (edit (bits_of left q) set
         (from_half (walks_at (suc depth) (cells_of nodes.now)) half).routes) a inherited) (changed
-        out.old.items (best_in bests.now)) (changed out.new.items (best_in bests.now)) (kept_or x
-        (best_behind (best_in bests.now) half (best_one inherited)))) }
+        out.old.items (best_in nodes.now)) (changed out.new.items (best_in nodes.now)) (kept_or x
+        (best_behind (best_in nodes.now) half (best_one inherited)))) }
     ensures steps { C.count steps.new + new_behind (cells_of nodes.now) (bits_of left q) half
         ≤ C.count steps.old + left + 1 + nodes_in (bits_of left q) (from_half (walks_at (suc depth)
         (cells_of nodes.now)) half).nodes }
 {
     match half {
         None => Ok(Some(fresh(left, inherited, set))),
-        Some(j) => plan(
-            alloc, nodes, bests, j, q, left, depth, inherited, set, out, steps,
-        ),
+        Some(j) => plan(alloc, nodes, j, q, left, depth, inherited, set, out, steps),
     }
 }

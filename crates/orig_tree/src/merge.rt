@@ -7,9 +7,8 @@ ghost use Rattle.fib_addr.specs.Views.{entry_as, prefix_as};
 ghost use Rattle.orig_tree.specs.Arena.{cells_of, Owner, IsTree, HasSpares};
 ghost use Rattle.orig_tree.specs.Bests.{best_in};
 ghost use Rattle.orig_tree.specs.Merged.{starts_within, IsHalfMade, Merges};
-ghost use Rattle.orig_tree.specs.declared.best.Best.{Best as best_view};
 
-use crate::best::{Best, Bests, exchange};
+use crate::best::Best;
 use crate::node::{Label, Nodes, climb, read, reserve, split, update_node};
 use crate::source::EntrySource;
 use fib_addr::{Entry, Prefix, bit_at};
@@ -38,8 +37,8 @@ pub(crate) fn next_half<S: EntrySource>(entries: &S, at: &Prefix) -> Option<bool
 /// Sets a label of a node, which stands for the prefix, where the first entry is at that prefix, and takes that entry.
 fn merge_own(nodes: &mut Nodes, i: usize, at: &Prefix, label: Label, entries: &mut &[Entry])
     ensures len { vec_len nodes.new.halves ≡ vec_len nodes.old.halves }
-    ensures merged { (h levels : ℕ) (kept : ℕ → best_view) → Merges label h levels (prefix_as at.now)
-        (cells_of nodes.old) (cells_of nodes.new) nodes.old.free nodes.new.free kept kept i
+    ensures merged { (h levels : ℕ) → Merges label h levels (prefix_as at.now) (cells_of nodes.old)
+        (cells_of nodes.new) nodes.old.free nodes.new.free (best_in nodes.old) (best_in nodes.new) i
         (map entry_as entries.old.now) (map entry_as entries.new.now) }
 {
     match *entries {
@@ -53,30 +52,19 @@ fn merge_own(nodes: &mut Nodes, i: usize, at: &Prefix, label: Label, entries: &m
 }
 
 /// The place of a half of a node, which is made a node if it is none.
-fn open_half(
-    nodes: &mut Nodes,
-    bests: &mut Bests,
-    i: usize,
-    bit: bool,
-    inherited: u16,
-) -> Result<usize, AllocError>
-    requires long { vec_len nodes.old.halves ≤ vec_len bests.old.halves }
-    ensures long { vec_len nodes.new.halves ≤ vec_len bests.new.halves }
-    ensures open { IfOk result (λ j. (d : ℕ) (name : ℕ → Owner) (n : ℕ) (p : List Bool) → 1 < d
+fn open_half(nodes: &mut Nodes, i: usize, bit: bool, inherited: u16) -> Result<usize, AllocError>
+    ensures { IfOk result (λ j. (d : ℕ) (name : ℕ → Owner) (n : ℕ) (p : List Bool) → 1 < d
         → IsTree d (cells_of nodes.old) name i p → HasSpares (cells_of nodes.old) nodes.old.free name n
         → IsHalfMade d bit (cells_of nodes.old) (cells_of nodes.new) nodes.new.free name i p inherited
-        (best_in bests.old) (best_in bests.new) j) }
+        (best_in nodes.old) (best_in nodes.new) j) }
 {
     let node = read(nodes, i);
     if let Some(j) = node.half(bit) {
         return Ok(j);
     }
-    reserve(nodes, bests, 1)?;
-    let j = split(nodes, i, node, bit);
+    reserve(nodes, 1)?;
     let hop = node.route.hop.unwrap_or(inherited);
-    let mut best = Best::one(hop);
-    exchange(bests, j, &mut best);
-    Ok(j)
+    Ok(split(nodes, i, node, bit, Best::one(hop)))
 }
 
 /// Sets a label for those of the entries, from the first on, whose prefixes are within that of a node, each in its turn, and takes
@@ -89,18 +77,15 @@ fn open_half(
 #[cycle(merge)]
 pub(crate) fn merge(
     nodes: &mut Nodes,
-    bests: &mut Bests,
     i: usize,
     at: &Prefix,
     inherited: u16,
     label: Label,
     entries: &mut &[Entry],
 ) -> Result<(), AllocError>
-    requires long { vec_len nodes.old.halves ≤ vec_len bests.old.halves }
-    ensures long { vec_len nodes.new.halves ≤ vec_len bests.new.halves }
-    ensures merged { OnOk result (Merges label inherited (width at.now.family - at.now.len) (prefix_as
+    ensures { OnOk result (Merges label inherited (width at.now.family - at.now.len) (prefix_as
         at.now) (cells_of nodes.old) (cells_of nodes.new) nodes.old.free nodes.new.free (best_in
-        bests.old) (best_in bests.new) i (map entry_as entries.old.now) (map entry_as
+        nodes.old) (best_in nodes.new) i (map entry_as entries.old.now) (map entry_as
         entries.new.now)) }
 {
     merge_own(nodes, i, at, label, entries);
@@ -110,15 +95,15 @@ pub(crate) fn merge(
     match next_half(entries, at) {
         None => Ok(()),
         Some(true) => {
-            merge_half(nodes, bests, i, true, at, inherited, label, entries)?;
+            merge_half(nodes, i, true, at, inherited, label, entries)?;
             Ok(())
         }
         Some(false) => {
-            merge_half(nodes, bests, i, false, at, inherited, label, entries)?;
+            merge_half(nodes, i, false, at, inherited, label, entries)?;
             let Some(true) = next_half(entries, at) else {
                 return Ok(());
             };
-            merge_half(nodes, bests, i, true, at, inherited, label, entries)?;
+            merge_half(nodes, i, true, at, inherited, label, entries)?;
             Ok(())
         }
     }
@@ -128,7 +113,6 @@ pub(crate) fn merge(
 #[cycle(merge)]
 fn merge_half(
     nodes: &mut Nodes,
-    bests: &mut Bests,
     i: usize,
     bit: bool,
     at: &Prefix,
@@ -136,18 +120,16 @@ fn merge_half(
     label: Label,
     entries: &mut &[Entry],
 ) -> Result<(), AllocError>
-    requires longer { at.now.len < width at.now.family }
-    requires long { vec_len nodes.old.halves ≤ vec_len bests.old.halves }
-    ensures long { vec_len nodes.new.halves ≤ vec_len bests.new.halves }
-    ensures merged { OnOk result (Merges label inherited (width at.now.family - at.now.len) (prefix_as
+    requires { at.now.len < width at.now.family }
+    ensures { OnOk result (Merges label inherited (width at.now.family - at.now.len) (prefix_as
         at.now) (cells_of nodes.old) (cells_of nodes.new) nodes.old.free nodes.new.free (best_in
-        bests.old) (best_in bests.new) i (map entry_as entries.old.now) (map entry_as
+        nodes.old) (best_in nodes.new) i (map entry_as entries.old.now) (map entry_as
         entries.new.now)) }
 {
     let half = at.half(bit);
-    let j = open_half(nodes, bests, i, bit, inherited)?;
+    let j = open_half(nodes, i, bit, inherited)?;
     let below = read(nodes, i).route.hop.unwrap_or(inherited);
-    merge(nodes, bests, j, &half, below, label, entries)?;
+    merge(nodes, j, &half, below, label, entries)?;
     climb(nodes, i, label, true);
     Ok(())
 }

@@ -14,15 +14,16 @@ ghost use Rattle.table_model.specs.Entries.{of_table};
 ghost use Rattle.orig_tree.specs.Views.{FitsWidth};
 ghost use Rattle.orig_tree.specs.Uniform.{IsUniform};
 ghost use Rattle.orig_tree.specs.Arena.{cells_of, Owner, blank_cell, cell_at, half_place, walks_at, IsTree, IsSet, retold, cover_at, cover_of, from_half, HasSpares, link, GivesPlace, IsSplit, MakesRoom, HalvesStay, with_half};
-ghost use Rattle.orig_tree.specs.Bests.{best_in, AreBest, IsGrown, laid};
+ghost use Rattle.orig_tree.specs.Bests.{best_in, bests_of, best_one, blank_place, put_at, AreBest, IsGrown, laid};
 ghost use Rattle.orig_tree.specs.Steps.{new_nodes};
 ghost use Rattle.orig_tree.specs.Placed.{Climbs, IsPlaced, route_set};
 
-use crate::best::{Best, Bests, exchange, fresh, lengthen};
+use crate::best::{Best, fresh};
 use crate::counter::{Counter, Uncounted};
 use crate::cover::{Cover, Slot};
 use fib_addr::{EntrySink, Prefix, bit_at, emit_entry};
 use std::alloc::{AllocError, Global};
+use std::mem;
 
 /// Which of a node's labels.
 #[derive(Clone, Copy, Debug, PartialEq, Eq)]
@@ -42,13 +43,20 @@ pub(crate) struct Node {
     pub(crate) high: u32,
 }
 
-/// The nodes of a tree by their places. The root's place is 0; it stands apart, so that a tree of the root alone takes no
-/// memory.
+/// A node, and what it keeps of its region. It takes 48 octets: a walk that asks for both reads them side by side.
+#[derive(Drop)]
+pub(crate) struct Place {
+    pub(crate) node: Node,
+    pub(crate) best: Best,
+}
+
+/// The nodes of a tree by their places, with what each keeps of its region. The root's place is 0; it stands apart, so that a
+/// tree of the root alone takes no memory.
 #[derive(Drop)]
 pub(crate) struct Nodes {
-    /// What is at all other places, of halves and spare ones: the node at place i, from 1 on, is at i - 1 here.
-    pub(crate) halves: Vec<Node>,
-    pub(crate) root: Node,
+    /// What is at all other places, of halves and spare ones: that at place i, from 1 on, is at i - 1 here.
+    pub(crate) halves: Vec<Place>,
+    pub(crate) root: Place,
     /// The first spare place, or 0. The node at a spare place tells the next one in `low`.
     pub(crate) free: u32,
 }
@@ -110,30 +118,93 @@ pub(crate) fn leaf() -> Node
     }
 }
 
+/// A place that is no node's yet.
+pub(crate) fn bare_place() -> Place
+    ensures { result ≡ blank_place }
+{
+    Place {
+        node: leaf(),
+        best: Best::one(0),
+    }
+}
+
 /// The node at a place.
 pub(crate) fn read(nodes: &Nodes, i: usize) -> Node
     ensures { result ≡ cell_at (cells_of nodes.now) i }
 {
     if i == 0 {
-        return nodes.root;
+        return nodes.root.node;
     }
     match nodes.halves.get(i - 1) {
-        Some(node) => *node,
+        Some(place) => place.node,
         None => leaf(),
     }
 }
 
-/// Puts a node at a place.
+/// Puts a node at a place, which keeps what it kept.
 pub(crate) fn put(nodes: &mut Nodes, i: usize, node: Node)
     ensures cells { cells_of nodes.new ≡ slice_set (cells_of nodes.old) i node }
+    ensures kept { bests_of nodes.new ≡ bests_of nodes.old }
     ensures free { nodes.new.free ≡ nodes.old.free }
     ensures len { vec_len nodes.new.halves ≡ vec_len nodes.old.halves }
     ensures capacity { vec_capacity nodes.new.halves ≡ vec_capacity nodes.old.halves }
 {
     if i == 0 {
-        nodes.root = node;
+        nodes.root.node = node;
     } else if i <= nodes.halves.len() {
-        nodes.halves[i - 1] = node;
+        nodes.halves[i - 1].node = node;
+    }
+}
+
+/// Exchanges what a place keeps. The nodes stay.
+pub(crate) fn exchange(nodes: &mut Nodes, i: usize, best: &mut Best)
+    ensures cells { cells_of nodes.new ≡ cells_of nodes.old }
+    ensures kept { (j : ℕ) → j ≤ vec_len nodes.old.halves
+        → best_in nodes.new j ≡ put_at (best_in nodes.old) i best.old j }
+    ensures put { i ≤ vec_len nodes.old.halves → (j : ℕ)
+        → best_in nodes.new j ≡ put_at (best_in nodes.old) i best.old j }
+    ensures given { i ≤ vec_len nodes.old.halves → best.new ≡ best_in nodes.old i }
+    ensures free { nodes.new.free ≡ nodes.old.free }
+    ensures len { vec_len nodes.new.halves ≡ vec_len nodes.old.halves }
+    ensures capacity { vec_capacity nodes.new.halves ≡ vec_capacity nodes.old.halves }
+{
+    if i == 0 {
+        mem::swap(&mut nodes.root.best, best);
+    } else if i <= nodes.halves.len() {
+        mem::swap(&mut nodes.halves[i - 1].best, best);
+    }
+}
+
+/// Puts a node at a place, with what it keeps.
+pub(crate) fn fill(nodes: &mut Nodes, i: usize, node: Node, best: Best)
+    ensures cells { cells_of nodes.new ≡ slice_set (cells_of nodes.old) i node }
+    ensures kept { (j : ℕ) → j ≤ vec_len nodes.old.halves
+        → best_in nodes.new j ≡ put_at (best_in nodes.old) i best j }
+    ensures put { i ≤ vec_len nodes.old.halves → (j : ℕ)
+        → best_in nodes.new j ≡ put_at (best_in nodes.old) i best j }
+    ensures free { nodes.new.free ≡ nodes.old.free }
+    ensures len { vec_len nodes.new.halves ≡ vec_len nodes.old.halves }
+    ensures capacity { vec_capacity nodes.new.halves ≡ vec_capacity nodes.old.halves }
+{
+    let place = Place { node, best };
+    if i == 0 {
+        nodes.root = place;
+    } else if i <= nodes.halves.len() {
+        nodes.halves[i - 1] = place;
+    }
+}
+
+/// What a place keeps, or what is given for a place that there isn't.
+pub(crate) fn best_at<'a>(nodes: &'a Nodes, i: usize, none: &'a Best) -> &'a Best
+    requires { none.now ≡ best_one 0 }
+    ensures { result.now ≡ best_in nodes.now i }
+{
+    if i == 0 {
+        return &nodes.root.best;
+    }
+    match nodes.halves.get(i - 1) {
+        Some(place) => &place.best,
+        None => none,
     }
 }
 
@@ -235,6 +306,7 @@ pub(crate) fn update_node(
     ensures same { result ≡ false → cover_of label (retold label hop (cover_at (cells_of nodes.old)
         label (half_place node false)) (cover_at (cells_of nodes.old) label (half_place node true))
         node) ≡ cover_of label node }
+    ensures kept { bests_of nodes.new ≡ bests_of nodes.old }
     ensures free { nodes.new.free ≡ nodes.old.free }
     ensures len { vec_len nodes.new.halves ≡ vec_len nodes.old.halves }
 {
@@ -255,6 +327,7 @@ pub(crate) fn assign(
 ) -> bool
     requires few { left ≤ 128 }
     ensures len { vec_len nodes.new.halves ≡ vec_len nodes.old.halves }
+    ensures kept { bests_of nodes.new ≡ bests_of nodes.old }
     ensures halves { HalvesStay (cells_of nodes.old) (cells_of nodes.new) }
     ensures free { nodes.new.free ≡ nodes.old.free }
     ensures set { (d : ℕ) (name : ℕ → Owner) (p : List Bool) → left < d
@@ -387,6 +460,7 @@ fn take(nodes: &mut Nodes) -> u32
     ensures gives { (name : ℕ → Owner) (n : ℕ) (r : List Bool)
         → HasSpares (cells_of nodes.old) nodes.old.free name n → GivesPlace r (cells_of nodes.old)
         (cells_of nodes.new) nodes.new.free name result }
+    ensures kept { (j : ℕ) → best_in nodes.new j ≡ best_in nodes.old j }
 {
     let spare = nodes.free;
     if spare != 0 {
@@ -394,12 +468,12 @@ fn take(nodes: &mut Nodes) -> u32
         return spare;
     }
     let at = nodes.halves.len() as u32 + 1;
-    nodes.halves.push_reserved(leaf());
+    nodes.halves.push_reserved(bare_place());
     at
 }
 
-/// Makes a half of a node a node, and tells its place.
-pub(crate) fn split(nodes: &mut Nodes, i: usize, node: Node, bit: bool) -> usize
+/// Makes a half of a node a node, which keeps this, and tells its place.
+pub(crate) fn split(nodes: &mut Nodes, i: usize, node: Node, bit: bool, best: Best) -> usize
     requires room { vec_len nodes.old.halves + 1 ≤ vec_capacity nodes.old.halves }
     requires few { vec_len nodes.old.halves + 1 < 2 ^ 32 }
     ensures len { vec_len nodes.new.halves ≤ vec_len nodes.old.halves + 1 }
@@ -408,10 +482,12 @@ pub(crate) fn split(nodes: &mut Nodes, i: usize, node: Node, bit: bool) -> usize
         ≡ cell_at (cells_of nodes.old) i → half_place node bit ≡ None → 1 < d
         → IsTree d (cells_of nodes.old) name i p → HasSpares (cells_of nodes.old) nodes.old.free name n
         → IsSplit d bit (cells_of nodes.old) (cells_of nodes.new) nodes.new.free name i p result }
+    ensures kept { (j : ℕ) → j ≤ vec_len nodes.new.halves
+        → best_in nodes.new j ≡ put_at (best_in nodes.old) result best j }
 {
     let at = take(nodes);
     let j = at as usize;
-    put(nodes, j, leaf());
+    fill(nodes, j, leaf(), best);
     let new = join_half(node, at, bit);
     put(nodes, i, new);
     j
@@ -430,28 +506,19 @@ fn join_half(node: Node, half: u32, bit: bool) -> Node
 
 /// Makes nodes down to a path, below a node that inherits the hop. It changes no table. The new ones keep what stands for
 /// their regions.
-pub(crate) fn grow(
-    nodes: &mut Nodes,
-    bests: &mut Bests,
-    i: usize,
-    q: u128,
-    left: u8,
-    inherited: u16,
-)
+pub(crate) fn grow(nodes: &mut Nodes, i: usize, q: u128, left: u8, inherited: u16)
     requires bits { left ≤ 128 }
     requires room { vec_len nodes.old.halves + left ≤ vec_capacity nodes.old.halves }
     requires few { vec_len nodes.old.halves + left < 2 ^ 32 }
-    requires long { vec_len nodes.old.halves + left ≤ vec_len bests.old.halves }
-    ensures long { vec_len nodes.new.halves ≤ vec_len bests.new.halves }
     ensures nodes { (d : ℕ) (name : ℕ → Owner) (n : ℕ) (p : List Bool) → left < d
         → IsTree d (cells_of nodes.old) name i p → HasSpares (cells_of nodes.old) nodes.old.free name n
         → MakesRoom d (bits_of left q) (cells_of nodes.old) (cells_of nodes.new) nodes.new.free name i
         p }
     ensures best { (d : ℕ) (name : ℕ → Owner) (n : ℕ) (p : List Bool) → left < d
         → IsTree d (cells_of nodes.old) name i p → HasSpares (cells_of nodes.old) nodes.old.free name n
-        → AreBest d (cells_of nodes.old) (best_in bests.old) (λ a. lpm (walks_at d (cells_of nodes.old)
+        → AreBest d (cells_of nodes.old) (best_in nodes.old) (λ a. lpm (walks_at d (cells_of nodes.old)
         i).routes a inherited) i → IsGrown d (cells_of nodes.new) name i p (λ a. lpm (walks_at d
-        (cells_of nodes.old) i).routes a inherited) (best_in bests.old) (best_in bests.new) }
+        (cells_of nodes.old) i).routes a inherited) (best_in nodes.old) (best_in nodes.new) }
 {
     if left == 0 {
         return;
@@ -461,18 +528,17 @@ pub(crate) fn grow(
     let node = read(nodes, i);
     let hop = node.route.hop.unwrap_or(inherited);
     match node.half(bit) {
-        Some(j) => grow(nodes, bests, j, q, at, hop),
+        Some(j) => grow(nodes, j, q, at, hop),
         None => {
-            let j = split(nodes, i, node, bit);
-            let mut best = Best::one(hop);
-            exchange(bests, j, &mut best);
-            grow(nodes, bests, j, q, at, hop);
+            let j = split(nodes, i, node, bit, Best::one(hop));
+            grow(nodes, j, q, at, hop);
         }
     }
 }
 
 /// Tells the cover of a node again where that of a half has changed, and tells whether it is another than it was.
 pub(crate) fn climb(nodes: &mut Nodes, i: usize, label: Label, changed: bool) -> bool
+    ensures kept { bests_of nodes.new ≡ bests_of nodes.old }
     ensures free { nodes.new.free ≡ nodes.old.free }
     ensures len { vec_len nodes.new.halves ≡ vec_len nodes.old.halves }
     ensures climbs { Climbs label changed result (cells_of nodes.old) (cells_of nodes.new) i }
@@ -489,7 +555,6 @@ pub(crate) fn climb(nodes: &mut Nodes, i: usize, label: Label, changed: bool) ->
 /// what stands for their regions once a route is set.
 pub(crate) fn grow_label<C: Counter>(
     nodes: &mut Nodes,
-    bests: &mut Bests,
     i: usize,
     q: u128,
     left: u8,
@@ -501,13 +566,11 @@ pub(crate) fn grow_label<C: Counter>(
     requires bits { left ≤ 128 }
     requires room { vec_len nodes.old.halves + left ≤ vec_capacity nodes.old.halves }
     requires few { vec_len nodes.old.halves + left < 2 ^ 32 }
-    requires long { vec_len nodes.old.halves + left ≤ vec_len bests.old.halves }
-    ensures long { vec_len nodes.new.halves ≤ vec_len bests.new.halves }
     ensures made { (d : ℕ) (name : ℕ → Owner) (n : ℕ) (p : List Bool) → left < d
         → IsTree d (cells_of nodes.old) name i p → HasSpares (cells_of nodes.old) nodes.old.free name n
         → IsPlaced d label (bits_of left q) hop (cells_of nodes.old) (cells_of nodes.new)
         nodes.new.free name i p (λ a. lpm (laid (route_set label hop) (bits_of left q) (walks_at d
-        (cells_of nodes.old) i).routes) a inherited) (best_in bests.old) (best_in bests.new) result }
+        (cells_of nodes.old) i).routes) a inherited) (best_in nodes.old) (best_in nodes.new) result }
     ensures steps { C.count steps.new ≤ C.count steps.old + new_nodes (cells_of nodes.old)
         (bits_of left q) i }
 {
@@ -520,15 +583,14 @@ pub(crate) fn grow_label<C: Counter>(
     let below = node.route.hop.unwrap_or(inherited);
     match node.half(bit) {
         Some(j) => {
-            let changed = grow_label(nodes, bests, j, q, at, below, label, hop, steps);
+            let changed = grow_label(nodes, j, q, at, below, label, hop, steps);
             climb(nodes, i, label, changed)
         }
         None => {
-            let j = split(nodes, i, node, bit);
+            let best = fresh(at, below, label.route(hop));
+            let j = split(nodes, i, node, bit, best);
             steps.tick();
-            let mut best = fresh(at, below, label.route(hop));
-            exchange(bests, j, &mut best);
-            let changed = grow_label(nodes, bests, j, q, at, below, label, hop, steps);
+            let changed = grow_label(nodes, j, q, at, below, label, hop, steps);
             climb(nodes, i, label, changed)
         }
     }
@@ -541,7 +603,6 @@ pub(crate) fn grow_label<C: Counter>(
 /// No memory, which comes too where there would be 2^31 nodes or more; then nothing has changed.
 pub(crate) fn set_label(
     nodes: &mut Nodes,
-    bests: &mut Bests,
     i: usize,
     q: u128,
     left: u8,
@@ -550,15 +611,13 @@ pub(crate) fn set_label(
     hop: u16,
 ) -> Result<bool, AllocError>
     requires bits { left ≤ 128 }
-    requires long { vec_len nodes.old.halves ≤ vec_len bests.old.halves }
-    ensures long { vec_len nodes.new.halves ≤ vec_len bests.new.halves }
     ensures made { IfOk result (λ more. (d : ℕ) (name : ℕ → Owner) (n : ℕ) (p : List Bool) → left < d
         → IsTree d (cells_of nodes.old) name i p → HasSpares (cells_of nodes.old) nodes.old.free name n
         → IsPlaced d label (bits_of left q) hop (cells_of nodes.old) (cells_of nodes.new)
         nodes.new.free name i p (λ a. lpm (laid (route_set label hop) (bits_of left q) (walks_at d
-        (cells_of nodes.old) i).routes) a inherited) (best_in bests.old) (best_in bests.new) more) }
+        (cells_of nodes.old) i).routes) a inherited) (best_in nodes.old) (best_in nodes.new) more) }
     ensures err { OnErr result ((cells_of nodes.new ≡ cells_of nodes.old)
-        × (nodes.new.free ≡ nodes.old.free) × ((j : ℕ) → best_in bests.new j ≡ best_in bests.old j)) }
+        × (nodes.new.free ≡ nodes.old.free) × ((j : ℕ) → best_in nodes.new j ≡ best_in nodes.old j)) }
     ensures held { (d : ℕ) → left < d → has_node (bits_of left q) (walks_at d (cells_of nodes.old)
         i).nodes ≡ true → IsOk result }
 {
@@ -570,13 +629,13 @@ pub(crate) fn set_label(
     match node.half(bit_at(q, at)) {
         Some(j) => {
             let below = node.route.hop.unwrap_or(inherited);
-            let changed = set_label(nodes, bests, j, q, at, below, label, hop)?;
+            let changed = set_label(nodes, j, q, at, below, label, hop)?;
             Ok(climb(nodes, i, label, changed))
         }
         None => {
-            reserve(nodes, bests, left as usize)?;
+            reserve(nodes, left as usize)?;
             let mut none = Uncounted;
-            Ok(grow_label(nodes, bests, i, q, left, inherited, label, hop, &mut none))
+            Ok(grow_label(nodes, i, q, left, inherited, label, hop, &mut none))
         }
     }
 }
@@ -589,33 +648,31 @@ pub(crate) const MOST: usize = 0x7fff_fffe;
 /// # Errors
 ///
 /// No memory, which comes too where there would be 2^31 nodes or more.
-pub(crate) fn reserve(nodes: &mut Nodes, bests: &mut Bests, more: usize) -> Result<(), AllocError>
+pub(crate) fn reserve(nodes: &mut Nodes, more: usize) -> Result<(), AllocError>
     requires { more ≤ 128 }
     ensures cells { (cells_of nodes.new ≡ cells_of nodes.old) × (nodes.new.free ≡ nodes.old.free) }
     ensures len { vec_len nodes.new.halves ≡ vec_len nodes.old.halves }
-    ensures kept { (j : ℕ) → best_in bests.new j ≡ best_in bests.old j }
-    ensures longer { vec_len bests.old.halves ≤ vec_len bests.new.halves }
+    ensures kept { (j : ℕ) → best_in nodes.new j ≡ best_in nodes.old j }
     ensures room { OnOk result ((vec_len nodes.new.halves + more ≤ vec_capacity nodes.new.halves)
-        × (vec_len nodes.new.halves + more < 2 ^ 32)
-        × (vec_len nodes.new.halves + more ≤ vec_len bests.new.halves)) }
+        × (vec_len nodes.new.halves + more < 2 ^ 32)) }
 {
     if nodes.halves.len() > MOST - more {
         return Err(AllocError);
     }
-    lengthen(bests, nodes.halves.len() + more)?;
     nodes.halves.reserve(more)?;
     Ok(())
 }
 
-/// The nodes of a tree with no routes and no entries.
+/// The nodes of a tree with no routes and no entries: all addresses get none.
 pub(crate) fn root_alone(alloc: Global) -> Nodes
     ensures cells { cells_of result ≡ blank_cell ∷ [] }
+    ensures kept { (i : ℕ) → best_in result i ≡ best_one 0 }
     ensures free { result.free ≡ 0 }
     ensures len { vec_len result.halves ≡ 0 }
 {
     Nodes {
         halves: Vec::new(alloc),
-        root: leaf(),
+        root: bare_place(),
         free: 0,
     }
 }

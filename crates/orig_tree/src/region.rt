@@ -10,9 +10,9 @@ ghost use Rattle.orig_tree.specs.Views.{FitsWidth};
 ghost use Rattle.orig_tree.specs.Cover.{SomeGets};
 ghost use Rattle.orig_tree.specs.Within.{nodes_in};
 
-use crate::best::{Best, Bests, best_at};
+use crate::best::Best;
 use crate::counter::Counter;
-use crate::node::{Label, Nodes, cover, read};
+use crate::node::{Label, Nodes, best_at, cover, read};
 use fib_addr::{HopSet, bit_at};
 use std::alloc::{AllocError, Global};
 use std::marker::Model;
@@ -22,7 +22,6 @@ use std::marker::Model;
 #[derive(Drop)]
 pub struct TreeRegion<'a> {
     pub(crate) nodes: &'a Nodes,
-    pub(crate) bests: &'a Bests,
     /// The place of the prefix's node, if it is one.
     pub(crate) place: Option<usize>,
     /// How many bits addresses have behind the prefix.
@@ -41,7 +40,7 @@ impl<'a> Model for TreeRegion<'a> {
 
     ghost view = { λ r. spot_at (cells_of r.nodes.now) r.place r.bits r.hop };
 
-    ghost invariant = { λ r. IsSpot (cells_of r.nodes.now) (best_in r.bests.now) r.place r.bits r.hop × (r.bits ≤ 128)
+    ghost invariant = { λ r. IsSpot (cells_of r.nodes.now) (best_in r.nodes.now) r.place r.bits r.hop × (r.bits ≤ 128)
         × IsRooted (cells_of r.nodes.now) r.place r.bits };
 }
 
@@ -68,7 +67,7 @@ impl<'a> TreeRegion<'a> {
             None => 0,
             Some(i) => {
                 let none = Best::one(0);
-                best_at(self.bests, i, &none).k
+                best_at(self.nodes, i, &none).k
             }
         }
     }
@@ -81,7 +80,7 @@ impl<'a> TreeRegion<'a> {
             None => self.hop == hop,
             Some(i) => {
                 let none = Best::one(0);
-                best_at(self.bests, i, &none).hops.contains(hop)
+                best_at(self.nodes, i, &none).hops.contains(hop)
             }
         }
     }
@@ -94,7 +93,7 @@ impl<'a> TreeRegion<'a> {
             None => self.hop,
             Some(i) => {
                 let none = Best::one(0);
-                best_at(self.bests, i, &none).hops.least()
+                best_at(self.nodes, i, &none).hops.least()
             }
         }
     }
@@ -111,7 +110,7 @@ impl<'a> TreeRegion<'a> {
             None => Ok(HopSet::one(self.hop)),
             Some(i) => {
                 let none = Best::one(0);
-                best_at(self.bests, i, &none).hops.copied(alloc)
+                best_at(self.nodes, i, &none).hops.copied(alloc)
             }
         }
     }
@@ -155,7 +154,6 @@ impl<'a> TreeRegion<'a> {
         match self.place {
             None => TreeRegion {
                 nodes: self.nodes,
-                bests: self.bests,
                 place: None,
                 bits: self.bits - 1,
                 hop: self.hop,
@@ -164,7 +162,6 @@ impl<'a> TreeRegion<'a> {
                 let node = read(self.nodes, i);
                 TreeRegion {
                     nodes: self.nodes,
-                    bests: self.bests,
                     place: node.half(bit),
                     bits: self.bits - 1,
                     hop: node.route.hop.unwrap_or(self.hop),

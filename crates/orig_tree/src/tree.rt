@@ -20,7 +20,7 @@ ghost use Rattle.orig_tree.specs.Arena.{cells_of, whole};
 ghost use Rattle.orig_tree.specs.Trims.{AreTrimmed};
 ghost use Rattle.orig_tree.specs.Within.{nodes_in, told};
 
-use crate::best::{Bests, Change, root_best};
+use crate::best::Change;
 use crate::count::count_within;
 use crate::counter::{Counter, Uncounted};
 use crate::load::{insert_all, load_all};
@@ -46,7 +46,6 @@ pub struct Tree {
     alloc: Global,
     family: Family,
     nodes: Nodes,
-    bests: Bests,
     undo: Option<Undo>,
     /// Room for the changes of the next call.
     spare: Vec<Change>,
@@ -58,14 +57,13 @@ impl Model for Tree {
 
     ghost Value = { Labels };
 
-    ghost use Rattle.std.specs.Prelude.{◌≤◌, vec_len};
     ghost use Rattle.orig_tree.specs.Arena.{cells_of, whole, IsArena};
     ghost use Rattle.orig_tree.specs.Bests.{best_in, KeepsBest};
     ghost use Rattle.orig_tree.specs.Undos.{routes_before, CanUndo};
 
     ghost view = { λ t. record { family = t.family; routes = of_table t.family (whole t.family (cells_of t.nodes)).routes; entries = of_table t.family (whole t.family (cells_of t.nodes)).entries; nodes = (whole t.family (cells_of t.nodes)).nodes; before = of_table t.family (routes_before t.undo (whole t.family (cells_of t.nodes)).routes) } };
 
-    ghost invariant = { λ t. IsArena t.family (cells_of t.nodes) t.nodes.free × InPlace (of_table t.family (whole t.family (cells_of t.nodes)).routes) × InPlace (of_table t.family (whole t.family (cells_of t.nodes)).entries) × KeepsBest t.family (cells_of t.nodes) (best_in t.bests) × (vec_len t.nodes.halves ≤ vec_len t.bests.halves) × CanUndo t.family (cells_of t.nodes) (best_in t.bests) t.undo };
+    ghost invariant = { λ t. IsArena t.family (cells_of t.nodes) t.nodes.free × InPlace (of_table t.family (whole t.family (cells_of t.nodes)).routes) × InPlace (of_table t.family (whole t.family (cells_of t.nodes)).entries) × KeepsBest t.family (cells_of t.nodes) (best_in t.nodes) × CanUndo t.family (cells_of t.nodes) (best_in t.nodes) t.undo };
 }
 
 /// The number of a hop, if there is one.
@@ -120,7 +118,6 @@ impl Tree {
             alloc,
             family,
             nodes: empty(alloc, family),
-            bests: root_best(alloc),
             undo: None,
             spare: Vec::new(alloc),
         }
@@ -162,13 +159,11 @@ impl Tree {
         ensures before { IfOk result (λ t. t.before ≡ t.routes) }
     {
         let mut nodes = empty(alloc, family);
-        let mut bests = root_best(alloc);
-        load_all(alloc, family, &mut nodes, &mut bests, routes)?;
+        load_all(alloc, family, &mut nodes, routes)?;
         Ok(Tree {
             alloc,
             family,
             nodes,
-            bests,
             undo: None,
             spare: Vec::new(alloc),
         })
@@ -190,13 +185,11 @@ impl Tree {
         ensures before { IfOk result (λ t. t.before ≡ t.routes) }
     {
         let mut nodes = self.nodes;
-        let mut bests = self.bests;
-        insert_all(self.family, &mut nodes, &mut bests, Label::Entry, entries)?;
+        insert_all(self.family, &mut nodes, Label::Entry, entries)?;
         Ok(Tree {
             alloc: self.alloc,
             family: self.family,
             nodes,
-            bests,
             undo: None,
             spare: self.spare,
         })
@@ -297,7 +290,6 @@ impl Tree {
     {
         let whole = TreeRegion {
             nodes: &self.nodes,
-            bests: &self.bests,
             place: Some(0),
             bits: self.family.width(),
             hop: 0,
@@ -335,14 +327,7 @@ impl Tree {
         ensures same { has_node (prefix_as prefix.now).bits self.old.nodes ≡ true → self.new ≡ self.old }
     {
         let q = path_bits(prefix);
-        make_room(
-            self.family,
-            &mut self.nodes,
-            &mut self.bests,
-            &mut self.undo,
-            q,
-            prefix.len,
-        )
+        make_room(self.family, &mut self.nodes, &mut self.undo, q, prefix.len)
     }
 
     /// Drops the nodes at the prefix and within it that have no route and no entry at them or within them, and those on the
@@ -483,7 +468,6 @@ impl Tree {
             self.alloc,
             self.family,
             &mut self.nodes,
-            &mut self.bests,
             q,
             prefix.len,
             set,
@@ -649,7 +633,7 @@ impl Tree {
         match self.undo.take() {
             None => {}
             Some(undo) => {
-                self.spare = take_back(self.family, &mut self.nodes, &mut self.bests, undo);
+                self.spare = take_back(self.family, &mut self.nodes, undo);
             }
         }
     }
@@ -733,7 +717,6 @@ impl Tree {
             self.alloc,
             self.family,
             &mut self.nodes,
-            &mut self.bests,
             q,
             prefix.len,
             hop.0,
@@ -769,7 +752,6 @@ impl Tree {
         insert_entry(
             self.family,
             &mut self.nodes,
-            &mut self.bests,
             &mut self.undo,
             q,
             prefix.len,

@@ -7,13 +7,12 @@ ghost use Rattle.table_model.specs.Regions.{entry_at};
 ghost use Rattle.orig_tree.specs.Walk.{walks_of, no_walks, edited, CanEdit, has_node};
 ghost use Rattle.orig_tree.specs.Trims.{IsTrimmed};
 ghost use Rattle.orig_tree.specs.Arena.{blank_cell, cells_of, whole, IsArena, IsRoomier, HalvesStay};
-ghost use Rattle.orig_tree.specs.Bests.{best_in, KeepsBest, IsLaid};
+ghost use Rattle.orig_tree.specs.Bests.{best_in, best_one, bests_of, KeepsBest, IsLaid};
 ghost use Rattle.orig_tree.specs.Undos.{UndoesChange, CanUndo};
 ghost use Rattle.orig_tree.specs.Within.{nodes_in};
-ghost use Rattle.orig_tree.specs.declared.best.Best.{Best};
 ghost use Rattle.orig_tree.specs.declared.node.Label.TheVariants.{Route, Entry};
 
-use crate::best::{Bests, Change, commit, no_changes, revert};
+use crate::best::{Change, commit, no_changes, revert};
 use crate::counter::Counter;
 use crate::drops::trim;
 use crate::mend::plan;
@@ -24,11 +23,12 @@ use crate::undo::Undo;
 use fib_addr::Family;
 use std::alloc::{AllocError, Global};
 
-/// The nodes of a tree with no routes and no entries.
+/// The nodes of a tree with no routes and no entries: all addresses get none.
 pub(crate) fn empty(alloc: Global, family: Family) -> Nodes
     ensures arena { IsArena family (cells_of result) result.free }
     ensures bare { whole family (cells_of result) ≡ walks_of None None no_walks no_walks }
     ensures alone { cells_of result ≡ blank_cell ∷ [] }
+    ensures kept { (i : ℕ) → best_in result i ≡ best_one 0 }
     ensures len { vec_len result.halves ≡ 0 }
 {
     let _ = family;
@@ -44,20 +44,17 @@ pub(crate) fn empty(alloc: Global, family: Family) -> Nodes
 pub(crate) fn make_room(
     family: Family,
     nodes: &mut Nodes,
-    bests: &mut Bests,
     undo: &mut Option<Undo>,
     q: u128,
     len: u8,
 ) -> Result<(), AllocError>
     requires few { len ≤ width family }
     requires arena { IsArena family (cells_of nodes.old) nodes.old.free }
-    requires best { KeepsBest family (cells_of nodes.old) (best_in bests.old) }
-    requires long { vec_len nodes.old.halves ≤ vec_len bests.old.halves }
-    requires undo { CanUndo family (cells_of nodes.old) (best_in bests.old) undo.old }
+    requires best { KeepsBest family (cells_of nodes.old) (best_in nodes.old) }
+    requires undo { CanUndo family (cells_of nodes.old) (best_in nodes.old) undo.old }
     ensures arena { IsArena family (cells_of nodes.new) nodes.new.free }
-    ensures best { KeepsBest family (cells_of nodes.new) (best_in bests.new) }
-    ensures long { vec_len nodes.new.halves ≤ vec_len bests.new.halves }
-    ensures undo { CanUndo family (cells_of nodes.new) (best_in bests.new) undo.new }
+    ensures best { KeepsBest family (cells_of nodes.new) (best_in nodes.new) }
+    ensures undo { CanUndo family (cells_of nodes.new) (best_in nodes.new) undo.new }
     ensures walks { IsRoomier (bits_of len q) (whole family (cells_of nodes.old)) (whole family
         (cells_of nodes.new)) }
     ensures ok { OnOk result (has_node (bits_of len q) (whole family (cells_of nodes.new)).nodes
@@ -72,8 +69,8 @@ pub(crate) fn make_room(
     if is_node(nodes, 0, q, len) {
         return Ok(());
     }
-    reserve(nodes, bests, len as usize)?;
-    grow(nodes, bests, 0, q, len, 0);
+    reserve(nodes, len as usize)?;
+    grow(nodes, 0, q, len, 0);
     *undo = None;
     Ok(())
 }
@@ -88,7 +85,6 @@ pub(crate) fn insert_route<C: Counter>(
     alloc: Global,
     family: Family,
     nodes: &mut Nodes,
-    bests: &mut Bests,
     q: u128,
     len: u8,
     hop: u16,
@@ -97,25 +93,22 @@ pub(crate) fn insert_route<C: Counter>(
 ) -> Result<Vec<Change>, AllocError>
     requires few { len ≤ width family }
     requires arena { IsArena family (cells_of nodes.old) nodes.old.free }
-    requires best { KeepsBest family (cells_of nodes.old) (best_in bests.old) }
-    requires long { vec_len nodes.old.halves ≤ vec_len bests.old.halves }
+    requires best { KeepsBest family (cells_of nodes.old) (best_in nodes.old) }
     ensures arena { IsArena family (cells_of nodes.new) nodes.new.free }
-    ensures best { KeepsBest family (cells_of nodes.new) (best_in bests.new) }
-    ensures long { vec_len nodes.new.halves ≤ vec_len bests.new.halves }
+    ensures best { KeepsBest family (cells_of nodes.new) (best_in nodes.new) }
     ensures laid { OnOk result (IsLaid Route (bits_of len q) hop (whole family (cells_of nodes.old)) (whole
         family (cells_of nodes.new))) }
     ensures err { OnErr result ((cells_of nodes.new ≡ cells_of nodes.old)
-        × ((j : ℕ) → best_in bests.new j ≡ best_in bests.old j)) }
+        × ((j : ℕ) → best_in nodes.new j ≡ best_in nodes.old j)) }
     ensures steps { C.count steps.new ≤ C.count steps.old + len + 1 + nodes_in (bits_of len q) (whole
         family (cells_of nodes.old)).nodes }
 {
-    reserve(nodes, bests, len as usize)?;
+    reserve(nodes, len as usize)?;
     let depth = family.width();
     let mut changes = no_changes(spare, depth)?;
     plan(
         alloc,
         nodes,
-        bests,
         0,
         q,
         len,
@@ -125,8 +118,8 @@ pub(crate) fn insert_route<C: Counter>(
         &mut changes,
         steps,
     )?;
-    commit(bests, &mut changes);
-    grow_label(nodes, bests, 0, q, len, 0, Label::Route, hop, steps);
+    commit(nodes, &mut changes);
+    grow_label(nodes, 0, q, len, 0, Label::Route, hop, steps);
     Ok(changes)
 }
 
@@ -140,7 +133,6 @@ pub(crate) fn update_route<C: Counter>(
     alloc: Global,
     family: Family,
     nodes: &mut Nodes,
-    bests: &mut Bests,
     q: u128,
     len: u8,
     set: Option<u16>,
@@ -149,66 +141,45 @@ pub(crate) fn update_route<C: Counter>(
 ) -> Result<Vec<Change>, AllocError>
     requires few { len ≤ width family }
     requires arena { IsArena family (cells_of nodes.old) nodes.old.free }
-    requires best { KeepsBest family (cells_of nodes.old) (best_in bests.old) }
-    requires long { vec_len nodes.old.halves ≤ vec_len bests.old.halves }
+    requires best { KeepsBest family (cells_of nodes.old) (best_in nodes.old) }
     requires allowed { CanEdit (bits_of len q) set (whole family (cells_of nodes.old)).nodes }
     ensures arena { IsArena family (cells_of nodes.new) nodes.new.free }
-    ensures best { KeepsBest family (cells_of nodes.new) (best_in bests.new) }
-    ensures long { vec_len nodes.new.halves ≤ vec_len bests.new.halves }
+    ensures best { KeepsBest family (cells_of nodes.new) (best_in nodes.new) }
     ensures walks { OnOk result (whole family (cells_of nodes.new) ≡ edited Route (bits_of len q) set
         (whole family (cells_of nodes.old))) }
     ensures back { IfOk result (λ v. (hop : Option ℕ) → hop ≡ entry_at (bits_of len q) (whole family
         (cells_of nodes.old)).routes → has_node (bits_of len q) (whole family (cells_of
         nodes.old)).nodes ≡ true → UndoesChange family (whole family (cells_of nodes.old)).routes
-        (cells_of nodes.new) (best_in bests.new) (record {
+        (cells_of nodes.new) (best_in nodes.new) (record {
           q = q;
           changes = v;
           hop = hop;
           len = len;
         })) }
     ensures err { OnErr result ((cells_of nodes.new ≡ cells_of nodes.old)
-        × ((j : ℕ) → best_in bests.new j ≡ best_in bests.old j)) }
+        × ((j : ℕ) → best_in nodes.new j ≡ best_in nodes.old j)) }
     ensures steps { C.count steps.new ≤ C.count steps.old + len + 1 + nodes_in (bits_of len q) (whole
         family (cells_of nodes.old)).nodes }
 {
     let depth = family.width();
     let mut changes = no_changes(spare, depth)?;
-    plan(
-        alloc,
-        nodes,
-        bests,
-        0,
-        q,
-        len,
-        depth,
-        0,
-        set,
-        &mut changes,
-        steps,
-    )?;
-    commit(bests, &mut changes);
+    plan(alloc, nodes, 0, q, len, depth, 0, set, &mut changes, steps)?;
+    commit(nodes, &mut changes);
     assign(nodes, 0, Label::Route, q, len, set);
     Ok(changes)
 }
 
 /// Takes a change of a route back, with what was kept before, and hands back the room that it took. It takes no memory.
-pub(crate) fn take_back(
-    family: Family,
-    nodes: &mut Nodes,
-    bests: &mut Bests,
-    undo: Undo,
-) -> Vec<Change>
+pub(crate) fn take_back(family: Family, nodes: &mut Nodes, undo: Undo) -> Vec<Change>
     requires arena { IsArena family (cells_of nodes.old) nodes.old.free }
-    requires long { vec_len nodes.old.halves ≤ vec_len bests.old.halves }
-    requires undo { CanUndo family (cells_of nodes.old) (best_in bests.old) (Some undo) }
+    requires undo { CanUndo family (cells_of nodes.old) (best_in nodes.old) (Some undo) }
     ensures arena { IsArena family (cells_of nodes.new) nodes.new.free }
-    ensures best { KeepsBest family (cells_of nodes.new) (best_in bests.new) }
-    ensures long { vec_len nodes.new.halves ≤ vec_len bests.new.halves }
+    ensures best { KeepsBest family (cells_of nodes.new) (best_in nodes.new) }
     ensures walks { whole family (cells_of nodes.new) ≡ edited Route (bits_of undo.len undo.q)
         undo.hop (whole family (cells_of nodes.old)) }
 {
     let _ = family;
-    let room = revert(bests, undo.changes);
+    let room = revert(nodes, undo.changes);
     assign(nodes, 0, Label::Route, undo.q, undo.len, undo.hop);
     room
 }
@@ -222,6 +193,7 @@ pub(crate) fn change(family: Family, nodes: &mut Nodes, q: u128, len: u8, hop: O
     ensures walks { whole family (cells_of nodes.new) ≡ edited Entry (bits_of len q) hop (whole
         family (cells_of nodes.old)) }
     ensures halves { HalvesStay (cells_of nodes.old) (cells_of nodes.new) }
+    ensures kept { bests_of nodes.new ≡ bests_of nodes.old }
     ensures len { vec_len nodes.new.halves ≡ vec_len nodes.old.halves }
 {
     let _ = family;
@@ -236,7 +208,6 @@ pub(crate) fn change(family: Family, nodes: &mut Nodes, q: u128, len: u8, hop: O
 pub(crate) fn insert_entry(
     family: Family,
     nodes: &mut Nodes,
-    bests: &mut Bests,
     undo: &mut Option<Undo>,
     q: u128,
     len: u8,
@@ -244,13 +215,11 @@ pub(crate) fn insert_entry(
 ) -> Result<(), AllocError>
     requires few { len ≤ width family }
     requires arena { IsArena family (cells_of nodes.old) nodes.old.free }
-    requires best { KeepsBest family (cells_of nodes.old) (best_in bests.old) }
-    requires long { vec_len nodes.old.halves ≤ vec_len bests.old.halves }
-    requires undo { CanUndo family (cells_of nodes.old) (best_in bests.old) undo.old }
+    requires best { KeepsBest family (cells_of nodes.old) (best_in nodes.old) }
+    requires undo { CanUndo family (cells_of nodes.old) (best_in nodes.old) undo.old }
     ensures arena { IsArena family (cells_of nodes.new) nodes.new.free }
-    ensures best { KeepsBest family (cells_of nodes.new) (best_in bests.new) }
-    ensures long { vec_len nodes.new.halves ≤ vec_len bests.new.halves }
-    ensures undo { CanUndo family (cells_of nodes.new) (best_in bests.new) undo.new }
+    ensures best { KeepsBest family (cells_of nodes.new) (best_in nodes.new) }
+    ensures undo { CanUndo family (cells_of nodes.new) (best_in nodes.new) undo.new }
     ensures laid { OnOk result (IsLaid Entry (bits_of len q) hop (whole family (cells_of nodes.old)) (whole
         family (cells_of nodes.new))) }
     ensures err { OnErr result ((whole family (cells_of nodes.new)
@@ -262,7 +231,7 @@ pub(crate) fn insert_entry(
         change(family, nodes, q, len, Some(hop));
         return Ok(());
     }
-    set_label(nodes, bests, 0, q, len, 0, Label::Entry, hop)?;
+    set_label(nodes, 0, q, len, 0, Label::Entry, hop)?;
     *undo = None;
     Ok(())
 }
@@ -278,8 +247,8 @@ pub(crate) fn drop_unused(family: Family, nodes: &mut Nodes, q: u128, len: u8)
         ≡ (whole family (cells_of nodes.old)).entries }
     ensures trimmed { IsTrimmed (bits_of len q) (whole family (cells_of nodes.old)) (whole family
         (cells_of nodes.new)) }
-    ensures best { (kept : ℕ → Best) → KeepsBest family (cells_of nodes.old) kept
-        → KeepsBest family (cells_of nodes.new) kept }
+    ensures best { KeepsBest family (cells_of nodes.old) (best_in nodes.old)
+        → KeepsBest family (cells_of nodes.new) (best_in nodes.new) }
     ensures len { vec_len nodes.new.halves ≡ vec_len nodes.old.halves }
 {
     trim(nodes, 0, q, len, family.width());

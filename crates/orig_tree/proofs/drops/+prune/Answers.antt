@@ -1,4 +1,4 @@
-use Rattle.std.proofs.Common.{arith}
+use Rattle.std.proofs.Common.{arith, ◌∙◌}
 use Rattle.orig_tree.specs.Arena.{cells_of}
 use Rattle.orig_tree.proofs.Dropping.{no_level, half_tree, half_none, half_stays, half_goes, prune_node}
 use Rattle.orig_tree.proofs.drops.+prune.Goals as goal
@@ -21,3 +21,9 @@ prune_half-returns-then-prune-clause-trimmed t c = λ d name spares p l s h. hal
 pub prune_half-returns-clause-trimmed : goal.prune_half-returns-clause-trimmed
 prune_half-returns-clause-trimmed t c = λ d name spares p l s h. half_goes d _ (cells_of c.args.nodes.now) (cells_of c.prune.new.nodes) (cells_of c.give.new.nodes) c.prune.new.nodes.free c.give.new.nodes.free name c.args.half p c.prune.result c.if-half-eq0.false c.if-prune.false
     (c.prune.ensures.trimmed d name spares p (omega (arith, l, c.if-depth-eq0.false)) (half_tree d (cells_of c.args.nodes.now) name c.args.half p c.if-half-eq0.false s) h) c.give.ensures.cells c.give.ensures.free
+
+pub prune-returns-clause-kept : goal.prune-returns-clause-kept
+prune-returns-clause-kept t c = c.settle.ensures.kept ∙ (c.prune_half-high.ensures.kept ∙ c.prune_half-low.ensures.kept)
+
+pub prune_half-returns-clause-kept : goal.prune_half-returns-clause-kept
+prune_half-returns-clause-kept t c = c.give.ensures.kept ∙ c.prune.ensures.kept

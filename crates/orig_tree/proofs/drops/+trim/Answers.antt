@@ -30,3 +30,12 @@ trim_half-returns-then-trim-clause-trimmed t c = λ d name spares p l s h. half_
 pub trim_half-returns-clause-trimmed : goal.trim_half-returns-clause-trimmed
 trim_half-returns-clause-trimmed t c = λ d name spares p l s h. half_goes d _ (cells_of c.args.nodes.now) (cells_of c.trim.new.nodes) (cells_of c.give.new.nodes) c.trim.new.nodes.free c.give.new.nodes.free name c.args.half p c.trim.result c.if-half-eq0.false c.if-trim.false
     (c.trim.ensures.trimmed d name spares p (omega (arith, l, c.if-depth-eq0.false)) (half_tree d (cells_of c.args.nodes.now) name c.args.half p c.if-half-eq0.false s) h) c.give.ensures.cells c.give.ensures.free
+
+pub trim-returns-then-bit_at-clause-kept : goal.trim-returns-then-bit_at-clause-kept
+trim-returns-then-bit_at-clause-kept t c = c.settle.ensures.kept ∙ c.trim_half-high.ensures.kept
+
+pub trim-returns-clause-kept : goal.trim-returns-clause-kept
+trim-returns-clause-kept t c = c.settle-2.ensures.kept ∙ c.trim_half-low.ensures.kept
+
+pub trim_half-returns-clause-kept : goal.trim_half-returns-clause-kept
+trim_half-returns-clause-kept t c = c.give.ensures.kept ∙ c.trim.ensures.kept

@@ -1,4 +1,4 @@
-use Rattle.std.proofs.Common.{◌≤◌, map, length, vec_len}
+use Rattle.std.proofs.Common.{map, length}
 use Rattle.fib_addr.specs.Views.{entry_as}
 use Rattle.orig_tree.specs.Arena.{cells_of}
 use Rattle.orig_tree.specs.Bests.{best_in}
@@ -7,8 +7,7 @@ use Rattle.orig_tree.proofs.load.insert_all.Given as goal
 
 abbrev pub invariant-loop-left : goal.invariant-loop-left
 invariant-loop-left l = record {
-  long : vec_len l.nodes.halves ≤ vec_len l.bests.halves;
-  lays : Lays l.family l.label (cells_of l.fn.nodes) (cells_of l.nodes) l.nodes.free (best_in l.fn.bests) (best_in l.bests) (map entry_as l.entries) (map entry_as l.left);
+  lays : Lays l.family l.label (cells_of l.fn.nodes) (cells_of l.nodes) l.nodes.free (best_in l.fn.nodes) (best_in l.nodes) (map entry_as l.entries) (map entry_as l.left);
 }
 
 abbrev pub decreases-loop-left : goal.decreases-loop-left

@@ -14,13 +14,13 @@ use Rattle.orig_tree.proofs.mend.+plan.Goals as goal
 
 pub plan-returns-then-left-eq0-clause-best : goal.plan-returns-then-left-eq0-clause-best
 plan-returns-then-left-eq0-clause-best g t c = λ name p s k u.
-    let S = best_in c.args.bests.now in
+    let S = best_in c.args.nodes.now in
     plan_end (cells_of c.args.nodes.now) c.args.depth c.args.i c.args.left c.args.q c.args.inherited c.unwrap_or.result c.args.set name p (changed c.args.out.now.items S) (changed c.mend.new.out.items S) c.in_ok-mended.mended c.if-left-eq0.true c.unwrap_or.ensures
     (c.in_ok-mended.ensures.best name p c.args.inherited s k u)
 
 pub plan-returns-in_default-clause-best : goal.plan-returns-in_default-clause-best
 plan-returns-in_default-clause-best g t c =
-    let S = best_in c.args.bests.now in
+    let S = best_in c.args.nodes.now in
     plan_stays (cells_of c.args.nodes.now) c.args.i c.read-node.result c.read-node.ensures (c.args.depth - 1) c.args.depth (omega (arith, c.if-left-eq0.false, c.requires.few)) c.bit_at-bit.result c.half.result (half_place c.read-node.result (not c.bit_at-bit.result)) c.half.ensures refl
     c.args.left c.args.q c.args.inherited c.unwrap_or-hop.result c.args.set c.if-left-eq0.false c.bit_at-bit.ensures c.unwrap_or-hop.ensures
     S c.args.out.now.items c.plan_half.new.out.items (kept_or c.in_ok-planned.planned (best_behind S c.half.result (best_one c.unwrap_or-hop.result))) c.in_ok-planned.ensures.best
@@ -28,28 +28,28 @@ plan-returns-in_default-clause-best g t c =
 
 pub plan-returns-then-is_same-clause-best : goal.plan-returns-then-is_same-clause-best
 plan-returns-then-is_same-clause-best g t c =
-    let S = best_in c.args.bests.now in
+    let S = best_in c.args.nodes.now in
     let old = best_behind S c.half.result (best_one c.unwrap_or-hop.result) in
     plan_same (cells_of c.args.nodes.now) c.args.i c.read-node.result c.read-node.ensures (c.args.depth - 1) c.args.depth (omega (arith, c.if-left-eq0.false, c.requires.few)) c.bit_at-bit.result c.half.result c.half-2.result c.half.ensures c.half-2.ensures
     c.args.left c.args.q c.args.inherited c.unwrap_or-hop.result c.args.set c.if-left-eq0.false c.bit_at-bit.ensures c.unwrap_or-hop.ensures
-    S c.args.out.now.items c.plan_half.new.out.items (kept_or c.in_ok-planned.planned old) c.half_best-far.result.now c.in_ok-best.best c.in_ok-planned.ensures.best
-    (c.half_best-far.ensures ∙ ap (best_behind S c.half-2.result) c.one-bare.ensures)
+    S c.args.out.now.items c.plan_half.new.out.items (kept_or c.in_ok-planned.planned old) c.half_keeps-far.result.now c.in_ok-best.best c.in_ok-planned.ensures.best
+    (c.half_keeps-far.ensures ∙ ap (best_behind S c.half-2.result) c.one-bare.ensures)
     (λ d f v w. c.in_ok-best.ensures d f (subst (λ (y : Best). IsRegionBest d (side c.bit_at-bit.result f) y) (ap (λ o. kept_or o old) c.in-Some.is) v) w)
     (c.is_same.ensures c.if-is_same.true ∙ c.best_at.ensures)
 
 pub plan-returns-clause-best : goal.plan-returns-clause-best
 plan-returns-clause-best g t c =
-    let S = best_in c.args.bests.now in
+    let S = best_in c.args.nodes.now in
     let old = best_behind S c.half.result (best_one c.unwrap_or-hop.result) in
     plan_node (cells_of c.args.nodes.now) c.args.i c.read-node.result c.read-node.ensures (c.args.depth - 1) c.args.depth (omega (arith, c.if-left-eq0.false, c.requires.few)) c.bit_at-bit.result c.half.result c.half-2.result c.half.ensures c.half-2.ensures
     c.args.left c.args.q c.args.inherited c.unwrap_or-hop.result c.args.set c.if-left-eq0.false c.bit_at-bit.ensures c.unwrap_or-hop.ensures
-    S c.args.out.now.items c.plan_half.new.out.items c.note.new.out.items (kept_or c.in_ok-planned.planned old) c.half_best-far.result.now c.in_ok-best.best
-    c.in_ok-planned.ensures.best (c.half_best-far.ensures ∙ ap (best_behind S c.half-2.result) c.one-bare.ensures)
+    S c.args.out.now.items c.plan_half.new.out.items c.note.new.out.items (kept_or c.in_ok-planned.planned old) c.half_keeps-far.result.now c.in_ok-best.best
+    c.in_ok-planned.ensures.best (c.half_keeps-far.ensures ∙ ap (best_behind S c.half-2.result) c.one-bare.ensures)
     (λ d f v w. c.in_ok-best.ensures d f (subst (λ (y : Best). IsRegionBest d (side c.bit_at-bit.result f) y) (ap (λ o. kept_or o old) c.in-Some.is) v) w)
     c.in_ok-note.ensures
 
 pub plan_half-returns-in-None-clause-best : goal.plan_half-returns-in-None-clause-best
-plan_half-returns-in-None-clause-best g t c = λ name p s k u. way_none (cells_of c.args.nodes.now) c.args.depth c.args.left c.args.q c.args.inherited c.args.set c.args.half (changed c.args.out.now.items (best_in c.args.bests.now)) c.fresh.result c.in-None.is c.requires.few c.fresh.ensures name p
+plan_half-returns-in-None-clause-best g t c = λ name p s k u. way_none (cells_of c.args.nodes.now) c.args.depth c.args.left c.args.q c.args.inherited c.args.set c.args.half (changed c.args.out.now.items (best_in c.args.nodes.now)) c.fresh.result c.in-None.is c.requires.few c.fresh.ensures name p
 
 pub plan-returns-in_err-mended-clause-steps : goal.plan-returns-in_err-mended-clause-steps
 plan-returns-in_err-mended-clause-steps g t c = way_end (cells_of c.args.nodes.now) c.args.i c.args.left c.args.q _ _ _ c.if-left-eq0.true c.mend.ensures.steps
@@ -86,7 +86,7 @@ plan_half-returns-in-None-clause-steps g t c = way_new (cells_of c.args.nodes.no
 
 pub plan_half-returns-in-Some-clause-best : goal.plan_half-returns-in-Some-clause-best
 plan_half-returns-in-Some-clause-best g t c =
-    let S = best_in c.args.bests.now in
+    let S = best_in c.args.nodes.now in
     let S0 = changed c.args.out.now.items S in
     let S1 = changed c.plan.new.out.items S in
     let cells = cells_of c.args.nodes.now in

@@ -5,29 +5,30 @@ use Rattle.orig_tree.specs.declared.node.Node.{Node}
 use Rattle.orig_tree.proofs.Growing.{within_it, split_inside}
 use Rattle.orig_tree.proofs.Mending.{put_here, put_other}
 use Rattle.orig_tree.proofs.Weaving.{opened_some, opened_none, opened_same}
+use Rattle.orig_tree.proofs.Stores.{cells_long}
 use Rattle.orig_tree.proofs.merge.open_half.Goals as goal
 
-pub returns-in-Some-clause-open : goal.returns-in-Some-clause-open
-returns-in-Some-clause-open c = λ d name n p l t h.
-    opened_some d c.args.bit (cells_of c.args.nodes.now) c.args.nodes.now.free n name c.args.i p c.args.inherited (best_in c.args.bests.now) c.in-Some.j (ap (λ x. half_place x c.args.bit) (sym c.read-node.ensures) ∙ (sym c.half.ensures ∙ c.in-Some.is)) t h
+pub returns-in-Some : goal.returns-in-Some
+returns-in-Some c = λ d name n p l t h.
+    opened_some d c.args.bit (cells_of c.args.nodes.now) c.args.nodes.now.free n name c.args.i p c.args.inherited (best_in c.args.nodes.now) c.in-Some.j (ap (λ x. half_place x c.args.bit) (sym c.read-node.ensures) ∙ (sym c.half.ensures ∙ c.in-Some.is)) t h
 
-pub returns-clause-open : goal.returns-clause-open
-returns-clause-open c = λ d name n p l t h.
+pub returns : goal.returns
+returns c = λ d name n p l t h.
     let old = cells_of c.args.nodes.now in
     let mid = cells_of c.reserve.new.nodes in
-    let new = cells_of c.split-j.new.nodes in
-    let S1 = best_in c.reserve.new.bests in
-    let x = c.one-best.result in
-    let j = c.split-j.result in
+    let new = cells_of c.split.new.nodes in
+    let S1 = best_in c.reserve.new.nodes in
+    let x = c.one.result in
+    let j = c.split.result in
     let same = c.reserve.ensures.cells in
     let at = c.read-node.ensures ∙ ap (λ cs. cell_at cs c.args.i) (sym same.0) in
     let gone = sym c.half.ensures ∙ c.in_default.is in
     let t1 = subst (λ (cs : List Node). IsTree d cs name c.args.i p) (sym same.0) t in
     let h1 = subst (λ (k : ℕ). HasSpares mid k name n) (sym same.1) (subst (λ (cs : List Node). HasSpares cs c.args.nodes.now.free name n) (sym same.0) h) in
-    let split = c.split-j.ensures.split d name n p at gone l t1 h1 in
-    let inside = split_inside d c.args.bit mid new c.split-j.new.nodes.free name c.args.i p j split in
-    let room = c.in_ok-reserve.ensures.room in
-    opened_same d c.args.bit old mid new c.split-j.new.nodes.free name c.args.i p c.args.inherited (best_in c.args.bests.now) S1 (best_in c.exchange.new.bests) j same.0 c.reserve.ensures.kept
-    (opened_none d c.args.bit c.read-node.result mid new c.split-j.new.nodes.free name c.args.i p c.args.inherited c.unwrap_or-hop.result S1 (best_in c.exchange.new.bests) j at c.unwrap_or-hop.ensures gone l t1 split
-    (λ y r e ne. c.exchange.ensures.kept y (omega (arith, within_it mid c.reserve.new.nodes.free n y name r h1 e, c.reserve.new.nodes.halves.ok.0, room.2)) ∙ put_other S1 j y x ne)
-    (c.exchange.ensures.kept j (omega (arith, inside, c.split-j.new.nodes.halves.ok.0, c.split-j.ensures.len, room.2)) ∙ (put_here S1 j x ∙ c.one-best.ensures)))
+    let split = c.split.ensures.split d name n p at gone l t1 h1 in
+    let inside = split_inside d c.args.bit mid new c.split.new.nodes.free name c.args.i p j split in
+    let longer = split.keeps.long in
+    opened_same d c.args.bit old mid new c.split.new.nodes.free name c.args.i p c.args.inherited (best_in c.args.nodes.now) S1 (best_in c.split.new.nodes) j same.0 c.reserve.ensures.kept
+    (opened_none d c.args.bit c.read-node.result mid new c.split.new.nodes.free name c.args.i p c.args.inherited c.unwrap_or-hop.result S1 (best_in c.split.new.nodes) j at c.unwrap_or-hop.ensures gone l t1 split
+    (λ y r e ne. c.split.ensures.kept y (omega (arith, longer, within_it mid c.reserve.new.nodes.free n y name r h1 e, cells_long c.split.new.nodes)) ∙ put_other S1 j y x ne)
+    (c.split.ensures.kept j (omega (arith, inside, cells_long c.split.new.nodes)) ∙ (put_here S1 j x ∙ c.one.ensures)))

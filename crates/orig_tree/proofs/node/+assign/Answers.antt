@@ -2,6 +2,7 @@ use Rattle.orig_tree.specs.Arena.{cells_of}
 use Rattle.std.proofs.Common.{arith, refl, sym, ◌∙◌}
 use Rattle.orig_tree.proofs.Arena.{set_here, set_none, set_below, set_stop, renewed, tree_long}
 use Rattle.orig_tree.proofs.Halving.{halves_same, halves_retold}
+use Rattle.orig_tree.proofs.Stores.{cells_long}
 use Rattle.orig_tree.proofs.node.+assign.Goals as goal
 
 pub returns-then-left-eq0-clause-set : goal.returns-then-left-eq0-clause-set
@@ -23,7 +24,7 @@ returns-then-changed-clause-set t c = λ d name p l s a. set_below c.args.label 
 
 pub returns-then-changed-clause-same : goal.returns-then-changed-clause-same
 returns-then-changed-clause-same t c = λ d name p l s a e. renewed c.args.label (cells_of c.args.nodes.now) (cells_of c.assign-changed.new.nodes) (cells_of c.update_node-then-changed.new.nodes) c.args.i c.read-node.result _ c.read-node.ensures
-    (omega (arith, tree_long d (cells_of c.args.nodes.now) name c.args.i p s, c.assign-changed.ensures.len, c.args.nodes.now.halves.ok.0, c.assign-changed.new.nodes.halves.ok.0)) c.update_node-then-changed.ensures.cells (c.update_node-then-changed.ensures.same e)
+    (omega (arith, tree_long d (cells_of c.args.nodes.now) name c.args.i p s, c.assign-changed.ensures.len, cells_long c.args.nodes.now, cells_long c.assign-changed.new.nodes)) c.update_node-then-changed.ensures.cells (c.update_node-then-changed.ensures.same e)
 
 pub returns-else-changed-clause-set : goal.returns-else-changed-clause-set
 returns-else-changed-clause-set t c = λ d name p l s a. (set_stop c.args.label c.args.q c.args.left c.args.hop (cells_of c.args.nodes.now) c.args.i c.read-node.result c.read-node.ensures (cells_of c.assign-changed.new.nodes) c.bit_at.result c.in-Some.j d name p c.if-left-eq0.false c.bit_at.ensures (sym c.half.ensures ∙ c.in-Some.is)
@@ -44,3 +45,6 @@ returns-then-changed-clause-halves t c = halves_retold (cells_of c.args.nodes.no
 
 pub returns-else-changed-clause-halves : goal.returns-else-changed-clause-halves
 returns-else-changed-clause-halves t c = c.assign-changed.ensures.halves
+
+pub returns-then-changed-clause-kept : goal.returns-then-changed-clause-kept
+returns-then-changed-clause-kept t c = c.update_node-then-changed.ensures.kept ∙ c.assign-changed.ensures.kept

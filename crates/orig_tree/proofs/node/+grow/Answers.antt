@@ -9,13 +9,14 @@ use Rattle.orig_tree.specs.Bests.{best_in, IsRegionBest}
 use Rattle.orig_tree.proofs.Rooms.{room_end, some_room, none_room}
 use Rattle.orig_tree.proofs.Growing.{grown_end, some_grown, none_grown, within_it, split_inside}
 use Rattle.orig_tree.proofs.Mending.{put_here, put_other}
+use Rattle.orig_tree.proofs.Stores.{cells_long}
 use Rattle.orig_tree.proofs.node.+grow.Goals as goal
 
 pub returns-then-left-eq0-clause-nodes : goal.returns-then-left-eq0-clause-nodes
 returns-then-left-eq0-clause-nodes t c = λ d name n p l s h. room_end (cells_of c.args.nodes.now) c.args.nodes.now.free c.args.i c.args.left c.args.q d name n p c.if-left-eq0.true l s h
 
 pub returns-then-left-eq0-clause-best : goal.returns-then-left-eq0-clause-best
-returns-then-left-eq0-clause-best t c = λ d name n p l s h k. grown_end d (cells_of c.args.nodes.now) name c.args.i p _ (best_in c.args.bests.now) k
+returns-then-left-eq0-clause-best t c = λ d name n p l s h k. grown_end d (cells_of c.args.nodes.now) name c.args.i p _ (best_in c.args.nodes.now) k
 
 pub returns-in-Some-clause-nodes : goal.returns-in-Some-clause-nodes
 returns-in-Some-clause-nodes t c = λ d name n p l s h. some_room (cells_of c.args.nodes.now) (cells_of c.grow.new.nodes) c.read-node.result c.half.result c.grow.new.nodes.free c.args.i c.in-Some.j c.args.left c.args.q d name p c.bit_at-bit.result c.if-left-eq0.false c.bit_at-bit.ensures
@@ -23,7 +24,7 @@ returns-in-Some-clause-nodes t c = λ d name n p l s h. some_room (cells_of c.ar
 
 pub returns-in-Some-clause-best : goal.returns-in-Some-clause-best
 returns-in-Some-clause-best t c = λ d name n p l s h k. some_grown c.args.left c.args.q c.args.inherited c.unwrap_or-hop.result c.bit_at-bit.result None c.read-node.result (cells_of c.args.nodes.now) c.args.i c.read-node.ensures c.if-left-eq0.false c.bit_at-bit.ensures c.unwrap_or-hop.ensures
-    (cells_of c.grow.new.nodes) c.args.nodes.now.free c.grow.new.nodes.free c.in-Some.j d n c.half.result name p (best_in c.args.bests.now) (best_in c.grow.new.bests) c.half.ensures c.in-Some.is l s h
+    (cells_of c.grow.new.nodes) c.args.nodes.now.free c.grow.new.nodes.free c.in-Some.j d n c.half.result name p (best_in c.args.nodes.now) (best_in c.grow.new.nodes) c.half.ensures c.in-Some.is l s h
     (λ e n1 m v u w a. c.grow.ensures.nodes e n1 m v u w a) (λ e n1 m v u w a o. c.grow.ensures.best e n1 m v u w a o) k
 
 pub returns-in-None-clause-nodes : goal.returns-in-None-clause-nodes
@@ -34,14 +35,15 @@ returns-in-None-clause-nodes t c = λ d name n p l s h. none_room (cells_of c.ar
 pub returns-in-None-clause-best : goal.returns-in-None-clause-best
 returns-in-None-clause-best t c = λ d name n p l s h k.
     let old = cells_of c.args.nodes.now in
-    let S = best_in c.args.bests.now in
-    let x = c.one-best.result in
+    let S = best_in c.args.nodes.now in
+    let x = c.one.result in
     let gone = sym c.half.ensures ∙ c.in-None.is in
     let split = c.split-j.ensures.split d name n p (c.read-node.ensures) gone (omega (arith, c.if-left-eq0.false, l)) s h in
+    let longer = split.keeps.long in
     let inside = split_inside d c.bit_at-bit.result old (cells_of c.split-j.new.nodes) c.split-j.new.nodes.free name c.args.i p c.split-j.result split in
     none_grown c.args.left c.args.q c.args.inherited c.unwrap_or-hop.result c.bit_at-bit.result None c.read-node.result old (cells_of c.split-j.new.nodes) (cells_of c.grow-in-None.new.nodes) c.args.nodes.now.free c.split-j.new.nodes.free c.grow-in-None.new.nodes.free
-    c.args.i c.split-j.result d n name p S (best_in c.exchange.new.bests) (best_in c.grow-in-None.new.bests) x c.read-node.ensures c.if-left-eq0.false c.bit_at-bit.ensures c.unwrap_or-hop.ensures gone l s h split
-    (λ y r e ne. c.exchange.ensures.kept y (omega (arith, within_it old c.args.nodes.now.free n y name r h e, c.args.nodes.now.halves.ok.0, c.requires.long)) ∙ put_other S c.split-j.result y x ne)
-    (c.exchange.ensures.kept c.split-j.result (omega (arith, inside, c.split-j.new.nodes.halves.ok.0, c.split-j.ensures.len, c.requires.long, c.if-left-eq0.false)) ∙ put_here S c.split-j.result x)
-    (λ e q m. subst (λ (y : Best). IsRegionBest e (λ a. lpm (edit (bits_of (c.args.left - 1) q) None []) a c.unwrap_or-hop.result) y) (sym c.one-best.ensures) (stands_one e c.unwrap_or-hop.result (λ a. c.unwrap_or-hop.result) (λ a l. refl)))
+    c.args.i c.split-j.result d n name p S (best_in c.split-j.new.nodes) (best_in c.grow-in-None.new.nodes) x c.read-node.ensures c.if-left-eq0.false c.bit_at-bit.ensures c.unwrap_or-hop.ensures gone l s h split
+    (λ y r e ne. c.split-j.ensures.kept y (omega (arith, longer, within_it old c.args.nodes.now.free n y name r h e, cells_long c.split-j.new.nodes)) ∙ put_other S c.split-j.result y x ne)
+    (c.split-j.ensures.kept c.split-j.result (omega (arith, inside, cells_long c.split-j.new.nodes)) ∙ put_here S c.split-j.result x)
+    (λ e q m. subst (λ (y : Best). IsRegionBest e (λ a. lpm (edit (bits_of (c.args.left - 1) q) None []) a c.unwrap_or-hop.result) y) (sym c.one.ensures) (stands_one e c.unwrap_or-hop.result (λ a. c.unwrap_or-hop.result) (λ a l. refl)))
     (λ e n1 m v u w a. c.grow-in-None.ensures.nodes e n1 m v u w a) (λ e n1 m v u w a o. c.grow-in-None.ensures.best e n1 m v u w a o) k

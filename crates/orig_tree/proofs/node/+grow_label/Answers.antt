@@ -9,36 +9,38 @@ use Rattle.orig_tree.proofs.Growing.{within_it, split_inside}
 use Rattle.orig_tree.proofs.Mending.{put_here, put_other}
 use Rattle.orig_tree.proofs.Placing.{placed_end, placed_some, placed_none, placed_free}
 use Rattle.orig_tree.proofs.Costing.{made_below, made_new}
+use Rattle.orig_tree.proofs.Stores.{cells_long, kept_is}
 use Rattle.orig_tree.proofs.node.+grow_label.Goals as goal
 
 pub returns-then-left-eq0-clause-made : goal.returns-then-left-eq0-clause-made
 returns-then-left-eq0-clause-made g t c = λ d name n p l s h.
-    placed_free d c.args.label _ c.args.hop _ _ _ _ name c.args.i p _ _ _ _ c.update_node.ensures.free (
-    placed_end c.args.label c.args.left c.args.q c.args.hop c.read-node.result _ (cells_of c.args.nodes.now) (cells_of c.update_node.new.nodes) c.args.nodes.now.free c.args.i d n name p _ (best_in c.args.bests.now) c.update_node.result
+    placed_free d c.args.label _ c.args.hop _ _ _ _ name c.args.i p _ _ _ _ _ c.update_node.ensures.free (kept_is c.args.nodes.now c.update_node.new.nodes c.update_node.ensures.kept) (
+    placed_end c.args.label c.args.left c.args.q c.args.hop c.read-node.result _ (cells_of c.args.nodes.now) (cells_of c.update_node.new.nodes) c.args.nodes.now.free c.args.i d n name p _ (best_in c.args.nodes.now) c.update_node.result
     c.read-node.ensures c.if-left-eq0.true refl c.update_node.ensures.cells c.update_node.ensures.same l s h)
 
 pub returns-in-Some-clause-made : goal.returns-in-Some-clause-made
 returns-in-Some-clause-made g t c = λ d name n p l s h.
-    placed_free d c.args.label _ c.args.hop _ _ _ _ name c.args.i p _ _ _ _ c.climb.ensures.free (
+    placed_free d c.args.label _ c.args.hop _ _ _ _ name c.args.i p _ _ _ _ _ c.climb.ensures.free (kept_is c.grow_label-changed.new.nodes c.climb.new.nodes c.climb.ensures.kept) (
     placed_some c.args.label c.args.left c.args.q c.args.inherited c.unwrap_or-below.result c.args.hop c.bit_at-bit.result c.grow_label-changed.result c.climb.result (route_set c.args.label c.args.hop) c.read-node.result
-    (cells_of c.args.nodes.now) (cells_of c.grow_label-changed.new.nodes) (cells_of c.climb.new.nodes) c.args.nodes.now.free c.grow_label-changed.new.nodes.free c.args.i c.in-Some.j d n c.half.result name p (best_in c.args.bests.now) (best_in c.grow_label-changed.new.bests)
+    (cells_of c.args.nodes.now) (cells_of c.grow_label-changed.new.nodes) (cells_of c.climb.new.nodes) c.args.nodes.now.free c.grow_label-changed.new.nodes.free c.args.i c.in-Some.j d n c.half.result name p (best_in c.args.nodes.now) (best_in c.grow_label-changed.new.nodes)
     c.read-node.ensures c.if-left-eq0.false c.bit_at-bit.ensures c.unwrap_or-below.ensures c.half.ensures c.in-Some.is l s h
     (λ e n1 m v u w a. c.grow_label-changed.ensures.made e n1 m v u w a) c.climb.ensures.climbs)
 
 pub returns-in-None-clause-made : goal.returns-in-None-clause-made
 returns-in-None-clause-made g t c = λ d name n p l s h.
     let old = cells_of c.args.nodes.now in
-    let S = best_in c.args.bests.now in
+    let S = best_in c.args.nodes.now in
     let x = c.fresh-best.result in
     let gone = sym c.half.ensures ∙ c.in-None.is in
     let split = c.split-j.ensures.split d name n p c.read-node.ensures gone (omega (arith, c.if-left-eq0.false, l)) s h in
+    let longer = split.keeps.long in
     let inside = split_inside d c.bit_at-bit.result old (cells_of c.split-j.new.nodes) c.split-j.new.nodes.free name c.args.i p c.split-j.result split in
-    placed_free d c.args.label _ c.args.hop _ _ _ _ name c.args.i p _ _ _ _ c.climb-in-None.ensures.free (
+    placed_free d c.args.label _ c.args.hop _ _ _ _ name c.args.i p _ _ _ _ _ c.climb-in-None.ensures.free (kept_is c.grow_label-changed-in-None.new.nodes c.climb-in-None.new.nodes c.climb-in-None.ensures.kept) (
     placed_none c.args.label c.args.left c.args.q c.args.inherited c.unwrap_or-below.result c.args.hop c.bit_at-bit.result c.grow_label-changed-in-None.result c.climb-in-None.result (route_set c.args.label c.args.hop) c.read-node.result
-    old (cells_of c.split-j.new.nodes) (cells_of c.grow_label-changed-in-None.new.nodes) (cells_of c.climb-in-None.new.nodes) c.split-j.new.nodes.free c.grow_label-changed-in-None.new.nodes.free c.args.i c.split-j.result d name p S (best_in c.exchange.new.bests) (best_in c.grow_label-changed-in-None.new.bests) x
+    old (cells_of c.split-j.new.nodes) (cells_of c.grow_label-changed-in-None.new.nodes) (cells_of c.climb-in-None.new.nodes) c.split-j.new.nodes.free c.grow_label-changed-in-None.new.nodes.free c.args.i c.split-j.result d name p S (best_in c.split-j.new.nodes) (best_in c.grow_label-changed-in-None.new.nodes) x
     c.read-node.ensures c.if-left-eq0.false c.bit_at-bit.ensures c.unwrap_or-below.ensures gone l s split
-    (λ y r e ne. c.exchange.ensures.kept y (omega (arith, within_it old c.args.nodes.now.free n y name r h e, c.args.nodes.now.halves.ok.0, c.requires.long)) ∙ put_other S c.split-j.result y x ne)
-    (c.exchange.ensures.kept c.split-j.result (omega (arith, inside, c.split-j.new.nodes.halves.ok.0, c.split-j.ensures.len, c.requires.long, c.if-left-eq0.false)) ∙ put_here S c.split-j.result x)
+    (λ y r e ne. c.split-j.ensures.kept y (omega (arith, longer, within_it old c.args.nodes.now.free n y name r h e, cells_long c.split-j.new.nodes)) ∙ put_other S c.split-j.result y x ne)
+    (c.split-j.ensures.kept c.split-j.result (omega (arith, inside, cells_long c.split-j.new.nodes)) ∙ put_here S c.split-j.result x)
     (λ e q m. (subst (λ (o : Option ℕ). IsRegionBest e (λ a. lpm (edit (bits_of (c.args.left - 1) q) o []) a c.unwrap_or-below.result) x) c.route.ensures (c.fresh-best.ensures e q m)))
     (λ e n1 m v u w a. c.grow_label-changed-in-None.ensures.made e n1 m v u w a) c.climb-in-None.ensures.climbs)
 

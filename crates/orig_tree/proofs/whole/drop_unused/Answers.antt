@@ -1,3 +1,7 @@
+use Rattle.std.proofs.Common.{ℕ, sym, subst}
+use Rattle.orig_tree.specs.Bests.{best_in, KeepsBest}
+use Rattle.orig_tree.specs.declared.best.Best.{Best}
+use Rattle.orig_tree.proofs.Stores.{kept_is}
 use Rattle.orig_tree.specs.Arena.{cells_of}
 use Rattle.table_model.specs.Bits.{bits_of}
 use Rattle.orig_tree.proofs.Roots.{trim_whole}
@@ -16,4 +20,4 @@ pub returns-clause-arena : goal.returns-clause-arena
 returns-clause-arena c = (trim_whole c.args.family (bits_of c.args.len c.args.q) c.width.result c.args.nodes.now.free c.trim.new.nodes.free (cells_of c.args.nodes.now) (cells_of c.trim.new.nodes) c.trim.result c.width.ensures c.requires.arena c.trim.ensures.trimmed).3
 
 pub returns-clause-best : goal.returns-clause-best
-returns-clause-best c = (trim_whole c.args.family (bits_of c.args.len c.args.q) c.width.result c.args.nodes.now.free c.trim.new.nodes.free (cells_of c.args.nodes.now) (cells_of c.trim.new.nodes) c.trim.result c.width.ensures c.requires.arena c.trim.ensures.trimmed).4
+returns-clause-best c = λ k. subst (λ (K : ℕ → Best). KeepsBest c.args.family (cells_of c.trim.new.nodes) K) (sym (kept_is c.args.nodes.now c.trim.new.nodes c.trim.ensures.kept)) ((trim_whole c.args.family (bits_of c.args.len c.args.q) c.width.result c.args.nodes.now.free c.trim.new.nodes.free (cells_of c.args.nodes.now) (cells_of c.trim.new.nodes) c.trim.result c.width.ensures c.requires.arena c.trim.ensures.trimmed).4 (best_in c.args.nodes.now) k)

@@ -9,7 +9,7 @@ use Rattle.orig_tree.proofs.region.TreeRegion.half.Goals as goal
 pub invariant_of-result : goal.invariant_of-result
 invariant_of-result c =
     let r = c.self.inside in (
-      half_spot (cells_of r.nodes.now) r.place r.bits (r.bits - 1) r.hop (omega (arith, c.requires, ap (λ (s : Spot). s.bits) c.self.view_is)) c.args.bit (best_in r.bests.now) (r.bits - 1) c.in-Some.i c.unwrap_or.result c.read-node.result c.half.result
+      half_spot (cells_of r.nodes.now) r.place r.bits (r.bits - 1) r.hop (omega (arith, c.requires, ap (λ (s : Spot). s.bits) c.self.view_is)) c.args.bit (best_in r.nodes.now) (r.bits - 1) c.in-Some.i c.unwrap_or.result c.read-node.result c.half.result
           c.in-Some.is refl c.read-node.ensures c.half.ensures c.unwrap_or.ensures c.self.invariant.0,
       omega (arith, c.self.invariant.1),
       half_rooted (cells_of r.nodes.now) r.place r.bits (r.bits - 1) (r.bits - 1) c.in-Some.i c.args.bit c.read-node.result c.half.result (omega (arith, c.requires, ap (λ (s : Spot). s.bits) c.self.view_is)) c.in-Some.is refl c.read-node.ensures c.half.ensures c.self.invariant.2,

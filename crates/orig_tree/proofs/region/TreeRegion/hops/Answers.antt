@@ -18,5 +18,5 @@ pub returns-in-Some : goal.returns-in-Some
 returns-in-Some c =
     let r = c.self.inside in
     IfOk-weaker c.copied.result (λ s. s ≡ c.best_at.result.now.hops) (λ s. SameHops s (set_of c.args.self.now.bits (spot_answers c.args.self.now)))
-    (λ s e h. ap (is_in h) e ∙ (ap (λ (b : Best). is_in h b.hops) c.best_at.ensures ∙ ((spot_stands (cells_of r.nodes.now) (best_in r.bests.now) r.place c.in-Some.i r.bits r.hop c.in-Some.is c.self.invariant.0).hops h ∙ ap (λ (t : Spot). is_in h (set_of t.bits (spot_answers t))) c.self.view_is)))
+    (λ s e h. ap (is_in h) e ∙ (ap (λ (b : Best). is_in h b.hops) c.best_at.ensures ∙ ((spot_stands (cells_of r.nodes.now) (best_in r.nodes.now) r.place c.in-Some.i r.bits r.hop c.in-Some.is c.self.invariant.0).hops h ∙ ap (λ (t : Spot). is_in h (set_of t.bits (spot_answers t))) c.self.view_is)))
     c.copied.ensures

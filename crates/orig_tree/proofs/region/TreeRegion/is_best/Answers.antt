@@ -15,4 +15,4 @@ returns-in-None c =
 pub returns-in-Some : goal.returns-in-Some
 returns-in-Some c =
     let r = c.self.inside in
-    c.contains.ensures ∙ (ap (λ (b : Best). is_in c.args.hop b.hops) c.best_at.ensures ∙ ((spot_stands (cells_of r.nodes.now) (best_in r.bests.now) r.place c.in-Some.i r.bits r.hop c.in-Some.is c.self.invariant.0).hops c.args.hop ∙ ap (λ (s : Spot). is_in c.args.hop (set_of s.bits (spot_answers s))) c.self.view_is))
+    c.contains.ensures ∙ (ap (λ (b : Best). is_in c.args.hop b.hops) c.best_at.ensures ∙ ((spot_stands (cells_of r.nodes.now) (best_in r.nodes.now) r.place c.in-Some.i r.bits r.hop c.in-Some.is c.self.invariant.0).hops c.args.hop ∙ ap (λ (s : Spot). is_in c.args.hop (set_of s.bits (spot_answers s))) c.self.view_is))

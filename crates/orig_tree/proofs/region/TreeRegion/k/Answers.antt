@@ -15,4 +15,4 @@ returns-in-None c =
 pub returns-in-Some : goal.returns-in-Some
 returns-in-Some c =
     let r = c.self.inside in
-    ap (λ (b : Best). b.k) c.best_at.ensures ∙ ((spot_stands (cells_of r.nodes.now) (best_in r.bests.now) r.place c.in-Some.i r.bits r.hop c.in-Some.is c.self.invariant.0).cost ∙ ap (λ (s : Spot). k_of s.bits (spot_answers s)) c.self.view_is)
+    ap (λ (b : Best). b.k) c.best_at.ensures ∙ ((spot_stands (cells_of r.nodes.now) (best_in r.nodes.now) r.place c.in-Some.i r.bits r.hop c.in-Some.is c.self.invariant.0).cost ∙ ap (λ (s : Spot). k_of s.bits (spot_answers s)) c.self.view_is)

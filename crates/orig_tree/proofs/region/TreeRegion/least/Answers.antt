@@ -15,4 +15,4 @@ returns-in-None c =
 pub returns-in-Some : goal.returns-in-Some
 returns-in-Some c =
     let r = c.self.inside in
-    c.least.ensures ∙ (ap (λ (b : Best). smallest b.hops) c.best_at.ensures ∙ (least_is r.bits (spot_answers (spot_at (cells_of r.nodes.now) r.place r.bits r.hop)) (best_in r.bests.now c.in-Some.i) (spot_stands (cells_of r.nodes.now) (best_in r.bests.now) r.place c.in-Some.i r.bits r.hop c.in-Some.is c.self.invariant.0) ∙ ap (λ (s : Spot). smallest (set_of s.bits (spot_answers s))) c.self.view_is))
+    c.least.ensures ∙ (ap (λ (b : Best). smallest b.hops) c.best_at.ensures ∙ (least_is r.bits (spot_answers (spot_at (cells_of r.nodes.now) r.place r.bits r.hop)) (best_in r.nodes.now c.in-Some.i) (spot_stands (cells_of r.nodes.now) (best_in r.nodes.now) r.place c.in-Some.i r.bits r.hop c.in-Some.is c.self.invariant.0) ∙ ap (λ (s : Spot). smallest (set_of s.bits (spot_answers s))) c.self.view_is))

@@ -36,8 +36,7 @@ invariant_of-self g c =
       same_rows f (whole f old).routes (whole f new).routes (ap (λ (cs : List Node). (whole f cs).routes) e.0) c.self.invariant.1,
       same_rows f (whole f old).entries (whole f new).entries (ap (λ (cs : List Node). (whole f cs).entries) e.0) c.self.invariant.2,
       c.update_route.ensures.best,
-      c.update_route.ensures.long,
-      can_same f old new (best_in c.self.inside.bests) (best_in c.update_route.new.bests) c.self.inside.undo e.0 e.1 c.self.invariant.5,
+      can_same f old new (best_in c.self.inside.nodes) (best_in c.update_route.new.nodes) c.self.inside.undo e.0 e.1 c.self.invariant.4,
     )
 
 pub invariant_of-self-2 : goal.invariant_of-self-2
@@ -57,9 +56,8 @@ invariant_of-self-2 g c =
       in_place_edit f (bits_of p.len c.path_bits-q.result) c.args.set old.routes new.routes l (ap (λ (n : Walks). n.routes) w) c.self.invariant.1,
       same_rows f old.entries new.entries (ap (λ (n : Walks). n.entries) w) c.self.invariant.2,
       c.update_route.ensures.best,
-      c.update_route.ensures.long,
-      subst (λ (o : Option Undo). CanUndo f (cells_of c.update_route.new.nodes) (best_in c.update_route.new.bests) o) (sym c.keep_if.ensures)
-          (kept_if c.args.own.is_node f old.routes (cells_of c.update_route.new.nodes) (best_in c.update_route.new.bests) _
+      subst (λ (o : Option Undo). CanUndo f (cells_of c.update_route.new.nodes) (best_in c.update_route.new.nodes) o) (sym c.keep_if.ensures)
+          (kept_if c.args.own.is_node f old.routes (cells_of c.update_route.new.nodes) (best_in c.update_route.new.nodes) _
           (λ t. c.in_ok-changes.ensures.back c.args.own.hop own (has ∙ (sym c.requires.node ∙ t))) c.self.invariant.1),
     )
 

@@ -10,7 +10,7 @@ use Rattle.orig_tree.proofs.tree.Tree.new.Goals as goal
 pub invariant_of-result : goal.invariant_of-result
 invariant_of-result c =
     let w = whole c.args.family (cells_of c.empty.result) in
-    (c.empty.ensures.arena, in_place_nil c.args.family w.routes (ap (λ (n : Walks). n.routes) c.empty.ensures.bare), in_place_nil c.args.family w.entries (ap (λ (n : Walks). n.entries) c.empty.ensures.bare), root_keeps c.args.family (cells_of c.empty.result) (best_in c.root_best.result) c.empty.ensures.alone c.empty.ensures.bare c.root_best.ensures.kept, omega (arith, c.empty.ensures.len), tt)
+    (c.empty.ensures.arena, in_place_nil c.args.family w.routes (ap (λ (n : Walks). n.routes) c.empty.ensures.bare), in_place_nil c.args.family w.entries (ap (λ (n : Walks). n.entries) c.empty.ensures.bare), root_keeps c.args.family (cells_of c.empty.result) (best_in c.empty.result) c.empty.ensures.alone c.empty.ensures.bare c.empty.ensures.kept, tt)
 
 pub returns : goal.returns
 returns c = bare_labels c.args.family (whole c.args.family (cells_of c.empty.result)) c.empty.ensures.bare

@@ -27,7 +27,6 @@ invariant_of-self-2 c =
       same_rows f old.routes new.routes (ap (λ (n : Walks). n.routes) laid.set ∙ laid.room.routes) c.self.invariant.1,
       in_place_put f (bits_of p.len c.path_bits-q.result) c.args.hop.0 laid.middle.entries new.entries l (ap (λ (n : Walks). n.entries) laid.set) (same_rows f old.entries laid.middle.entries laid.room.entries c.self.invariant.2),
       c.insert_entry.ensures.best,
-      c.insert_entry.ensures.long,
       c.insert_entry.ensures.undo,
     )
 

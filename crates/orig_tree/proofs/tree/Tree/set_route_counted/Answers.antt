@@ -25,8 +25,7 @@ invariant_of-self g c =
       same_rows f (whole f old).routes (whole f new).routes (ap (λ (cs : List Node). (whole f cs).routes) e.0) c.self.invariant.1,
       same_rows f (whole f old).entries (whole f new).entries (ap (λ (cs : List Node). (whole f cs).entries) e.0) c.self.invariant.2,
       c.insert_route.ensures.best,
-      c.insert_route.ensures.long,
-      can_same f old new (best_in c.self.inside.bests) (best_in c.insert_route.new.bests) c.self.inside.undo e.0 e.1 c.self.invariant.5,
+      can_same f old new (best_in c.self.inside.nodes) (best_in c.insert_route.new.nodes) c.self.inside.undo e.0 e.1 c.self.invariant.4,
     )
 
 pub invariant_of-self-2 : goal.invariant_of-self-2
@@ -41,7 +40,6 @@ invariant_of-self-2 g c =
       in_place_put c.self.inside.family (bits_of p.len c.path_bits-q.result) c.args.hop.0 laid.middle.routes new.routes l (ap (λ (n : Walks). n.routes) laid.set) (same_rows c.self.inside.family old.routes laid.middle.routes laid.room.routes c.self.invariant.1),
       same_rows c.self.inside.family old.entries new.entries (ap (λ (n : Walks). n.entries) laid.set ∙ laid.room.entries) c.self.invariant.2,
       c.in_ok-room.ensures.best,
-      c.in_ok-room.ensures.long,
       tt,
     )
 

@@ -23,7 +23,6 @@ invariant_of-self c =
       c.drop_unused.ensures.arena,
       same_rows f old.routes new.routes c.drop_unused.ensures.routes c.self.invariant.1,
       same_rows f old.entries new.entries c.drop_unused.ensures.entries c.self.invariant.2,
-      c.drop_unused.ensures.best (best_in c.self.inside.bests) c.self.invariant.3,
-      omega (arith, c.drop_unused.ensures.len, c.self.invariant.4),
+      c.drop_unused.ensures.best c.self.invariant.3,
       tt,
     )
