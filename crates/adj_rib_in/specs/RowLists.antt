@@ -1,5 +1,5 @@
--- What clauses see of a list of rows, and its sample.
-use Rattle.std.specs.Prelude.{◌≡◌, ◌<◌, ◌*◌, ℕ, List, Some, slice_get}
+-- What clauses see of a list of rows.
+use Rattle.std.specs.Prelude.{◌≡◌, ◌<◌, ℕ, List, Some, slice_get}
 use Rattle.std.specs.declared.cmp.Ordering.TheVariants.{Less}
 use Rattle.fib_addr.specs.Order.{code_cmp}
 use Rattle.adj_rib_in.specs.declared.rows.Row.{Row}
@@ -10,7 +10,3 @@ pub record RowItems : Type 0 where
 -- rows stand in strict order of their prefixes
 abbrev pub AreOrdered : List Row → Type 0
 AreOrdered rows = (i j : ℕ) (r t : Row) → i < j → slice_get rows i ≡ Some r → slice_get rows j ≡ Some t → code_cmp r.prefix t.prefix ≡ Less
-
--- the marks are every 16th row
-abbrev pub IsSample : List Row → List Row → Type 0
-IsSample rows marks = (k : ℕ) → slice_get marks k ≡ slice_get rows (k * 16)

@@ -1,0 +1,11 @@
+use Rattle.std.proofs.Common.{◌-◌, refl, sym, ap, ◌∙◌}
+use Rattle.fib_addr.specs.Order.{code_cmp}
+use Rattle.adj_rib_in.proofs.RowLists.{rows_before, less_if}
+use Rattle.adj_rib_in.proofs.Runs.{slot_read}
+use Rattle.adj_rib_in.proofs.row_list.is_before.Goals as goal
+
+pub returns-in-Some : goal.returns-in-Some
+returns-in-Some c = λ e.
+    let rows = c.args.rows.now in
+    let there = slot_read rows rows (c.args.at - 1) c.in-Some.row.now refl c.in-Some.ensures.lookup.3.0 c.in-Some.ensures.lookup.1 in
+    rows_before rows c.args.prefix.now c.requires c.args.at c.in-Some.row.now there (ap (λ p. code_cmp p c.args.prefix.now) (sym c.prefix.ensures) ∙ (sym c.cmp.ensures ∙ less_if c.cmp.result (sym c.is_lt.ensures ∙ e)))
