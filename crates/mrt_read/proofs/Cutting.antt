@@ -11,6 +11,7 @@ use Rattle.wire_model.specs.Pieces.{TakesRecords}
 use Rattle.wire_model.proofs.More.{takes_on, stays_too_long}
 use Rattle.wire_model.specs.Input.{Progress}
 use Rattle.wire_model.specs.Reading.{ReadsEvents}
+use Rattle.mrt_read.specs.InputReading as input
 use Rattle.mrt_read.specs.Standing as reading
 use Rattle.mrt_read.specs.declared.reader.Reader.{Reader}
 use Rattle.mrt_read.specs.Cuts.{cut_at}
@@ -18,9 +19,8 @@ use Rattle.mrt_read.specs.Cuts.{cut_at}
 pub reads_on : (octets : List ℕ) (read : Progress) (reader : Reader) → reading.reader_refusal reader ≡ None → reading.ReaderStands octets read reader → ReadsEvents octets read (reading.reader_left reader)
 reads_on octets read reader none s = rw none at s.goes_on
 
--- no whole record is left, and no bad header
 abbrev pub IsCutNow : Reader → Type 0
-IsCutNow reader = (record_at (reading.reader_left reader) ≡ Err HeaderCut) ⊎ (record_at (reading.reader_left reader) ≡ Err BodyCut)
+IsCutNow = input.IsCutNow
 
 pub cut_at_start : (reader : Reader) → reading.reader_left reader ≡ [] → IsCutNow reader
 unfolding record_at

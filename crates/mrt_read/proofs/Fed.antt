@@ -1,13 +1,14 @@
 -- A reader that was fed so many octets at most: the records read and the octets left are no more.
-use Rattle.std.proofs.Common.{◌≡◌, ℕ, ◌+◌, ◌≤◌, List, [], length, ap, arith}
+use Rattle.std.proofs.Common.{◌≡◌, ℕ, ◌+◌, List, [], length, ap, arith}
 use Rattle.std.proofs.lemmas.List.{length-append}
 use Rattle.route_model.specs.Events.{Event}
 use Rattle.wire_model.specs.Input.{start}
-use Rattle.mrt_read.specs.Standing.{ReaderFeeds, ReaderStands, ReaderTakesNothing, TakesEvents, reader_left, reader_records}
+use Rattle.mrt_read.specs.InputReading as input
+use Rattle.mrt_read.specs.Standing.{ReaderFeeds, ReaderStands, ReaderTakesNothing, TakesEvents, reader_left}
 use Rattle.mrt_read.specs.declared.reader.Reader.{Reader}
 
 abbrev pub IsFed : Reader → ℕ → Type 0
-IsFed reader n = reader_records reader + length (reader_left reader) ≤ n
+IsFed = input.IsFed
 
 pub fed_at_start : (r : Reader) → reader_left r ≡ [] → ReaderStands [] start r → IsFed r 0
 fed_at_start r nothing stands = omega (arith, stands.records, ap length nothing)

@@ -23,7 +23,10 @@ use Rattle.mrt_read.specs.declared.reader.EventsError.{EventsError}
 use Rattle.mrt_read.specs.declared.reader.EventsError.TheVariants as read
 use Rattle.mrt_read.specs.Cuts.{cut_at, is_cut, is_small}
 use Rattle.mrt_read.specs.Whole.{HasEvents, IsBad, IsInputRefused, IsTooLarge, MayGoOn, of_input, of_read}
-use Rattle.mrt_read.specs.declared.whole.WholeError.TheVariants.{Malformed}
+use Rattle.mrt_read.specs.declared.whole.WholeError.{WholeError}
+use Rattle.mrt_read.specs.declared.whole.WholeError.TheVariants.{Malformed, TooLarge, NoMemory, Fault}
+use Rattle.mrt_read.specs.InputReading.{EndsWhole, FeedsUpTo, IsNextRefused, TakesNext}
+use Rattle.mrt_read.proofs.Nexts.{as_piece}
 use Rattle.mrt_read.proofs.Arriving.{Comes, all_fed, comes_first, comes_next, such_before}
 use Rattle.mrt_read.proofs.Cutting.{IsCutNow, cut_rules, ends_here, not_cut, reads_on, uncut}
 
@@ -166,3 +169,38 @@ refused_piece None reader at events error large s cut = tt
 refused_piece (Some c) reader at events pieces.Fault large s cut = tt
 refused_piece (Some c) reader at events pieces.NoMemory large s cut = tt
 refused_piece (Some c) reader at events pieces.TooLarge large s cut = large_in c reader at events (large refl) s cut
+
+-- ---- a record after another
+
+pub gathering_fed : (content : Option (List ℕ)) (old new : Reader) (at to : ℕ) (events : List code_event.Event) → FeedsUpTo content at old to new → Gathering content old at events → Gathering content new to events
+gathering_fed content old new at to events fed s =
+    let p = as_piece content at to old new fed in
+    subst (λ (k : ℕ). Gathering content new k events) p.there (gathering_feeds content old new p.room at p.n events p.most p.comes s p.feeds)
+
+pub gathering_next : (content : Option (List ℕ)) (old new : Reader) (at to : ℕ) (events more : List code_event.Event) → TakesNext content at old (map event_as more) to new → Gathering content old at events → Gathering content new to (events ++ more)
+gathering_next content old new at to events more (fed, feeds, takes) s = gathering_takes content fed new to events more (gathering_fed content old fed at to events feeds s) takes
+
+any_refused : (content : Option (List ℕ)) → IfSome content (λ c. Unit {0})
+any_refused None = tt
+any_refused (Some c) = tt
+
+pub next_refused : (content : Option (List ℕ)) (old new : Reader) (at : ℕ) (events : List code_event.Event) (error : WholeError) → IsNextRefused content at old error new → Gathering content old at events → IfSome content (IsInputRefused error)
+next_refused content old new at events (Malformed malformed) (to, fed, feeds, inl (next, refuses)) s = refused_read content fed new to events (read.Malformed malformed) [] (gathering_fed content old fed at to events feeds s) next refuses
+next_refused content old new at events (Malformed malformed) (to, fed, feeds, inr (end, tells)) s = refused_end content fed to events malformed end (gathering_fed content old fed at to events feeds s) tells
+next_refused content old new at events TooLarge (to, fed, feeds, cut, large) s = refused_piece content fed to events pieces.TooLarge (λ _. large) (gathering_fed content old fed at to events feeds s) cut
+next_refused content old new at events NoMemory refused s = any_refused content
+next_refused content old new at events Fault refused s = any_refused content
+
+pub next_ends : (content : Option (List ℕ)) (old new : Reader) (at to : ℕ) (events : List code_event.Event) → EndsWhole content at old to new → Gathering content old at events → IfSome content (HasEvents (map event_as events))
+next_ends content old new at to events (feeds, end, tells) s = has_all content new to events end (gathering_fed content old new at to events feeds s) tells
+
+fed_within : (c fed rest : List ℕ) → octets_read c ≡ fed ++ rest → length fed ≤ 2 ^ 36
+fed_within c fed rest comes = omega (arith, ap length comes, length-append fed rest, length-take (2 ^ 36) c)
+
+may_go_on : (content : Option (List ℕ)) (reader : Reader) (at : ℕ) (events : List code_event.Event) → Gathering content reader at events → IsCutNow reader → IfSome content (λ c. MayGoOn (take at c))
+may_go_on None reader at events s cut = tt
+may_go_on (Some c) reader at events s cut = goes_on_at (Some c) reader at events (omega (arith, s.octets, fed_within c s.fed (octets_from at c) s.comes)) s cut
+
+-- each of its reads may be made
+pub next_may_go_on : (content : Option (List ℕ)) (old : Reader) (at : ℕ) (events : List code_event.Event) → Gathering content old at events → (to : ℕ) (fed : Reader) → FeedsUpTo content at old to fed → IsCutNow fed → IfSome content (λ c. MayGoOn (take to c))
+next_may_go_on content old at events s to fed feeds cut = may_go_on content fed to events (gathering_fed content old fed at to events feeds s) cut

@@ -6,3 +6,4 @@ pub mod Arriving
 pub mod Cutting
 pub mod Gathering
 pub mod Passes
+pub mod Nexts

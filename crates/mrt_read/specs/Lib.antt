@@ -5,3 +5,4 @@ pub mod Records
 pub mod Framing
 pub mod Cuts
 pub mod Whole
+pub mod InputReading

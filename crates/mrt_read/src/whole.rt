@@ -1,13 +1,13 @@
 //! The events of an input.
 
-ghost use Rattle.std.specs.Prelude.{◌≡◌, ◌<◌, length, map, IfErr, IfOk, IfSome};
+ghost use Rattle.std.specs.Prelude.{◌≡◌, map, IfErr, IfOk, IfSome};
 ghost use Rattle.fib_prefix.specs.Views.{event_as};
 ghost use Rattle.fib_io.specs.Reads.{Makes, PassInTime};
 ghost use Rattle.mrt_read.specs.Whole.{FaultRose, HasEvents, IsInputRefused, MayGoOn, end_of, of_input, of_read};
 ghost use Rattle.mrt_read.specs.declared.whole.WholeError.TheVariants.{Malformed as IsMalformed, NoMemory as IsNoMemory};
 
-use crate::{EventsError, Malformed, Reader};
-use fib_io::{Inputs, ReadError, piece_room, read_piece};
+use crate::{EventsError, InputReader, Malformed};
+use fib_io::{Inputs, ReadError};
 use fib_prefix::Event;
 use std::alloc::{AllocError, AllocFailed, Global};
 use thiserror::Error;
@@ -76,41 +76,6 @@ impl<T: Drop> From<AllocFailed<T>> for WholeError {
     }
 }
 
-/// All events of an input, read through this room.
-fn read_through<I: Inputs>(
-    alloc: Global,
-    inputs: &mut I,
-    name: &str,
-    room: &mut [u8],
-) -> Result<Vec<Event>, WholeError>
-    requires { 0 < length room.old }
-    ensures events { IfOk result (λ events. IfSome (I.content inputs.old name.now)
-        (HasEvents (map event_as events.items))) }
-    ensures refused { IfErr result (λ error. IfSome (I.content inputs.old name.now)
-        (IsInputRefused error)) }
-    ensures same { I.content inputs.new ≡ I.content inputs.old }
-    ensures cause { FaultRose (I.faults inputs.old) (I.faults inputs.new) name.now result }
-    ensures reads { Makes (I.reads inputs.old) (I.reads inputs.new)
-        (PassInTime (I.content inputs.old name.now) MayGoOn (end_of result) name.now) }
-{
-    let mut reader = Reader::new(alloc);
-    let mut all = Vec::new(alloc);
-    let mut more = Vec::new(alloc);
-    let mut at = 0;
-    loop {
-        let n = read_piece(inputs, name, at, room)?;
-        if n == 0 {
-            reader.finish()?;
-            return Ok(all);
-        }
-        reader.feed(&room[..n])?;
-        at += n as u64;
-        while reader.read_events(&mut more)? {
-            all.extend_from_slice(&more)?;
-        }
-    }
-}
-
 /// All events of an input of records, which is read to its end, in pieces.
 ///
 /// In memory are one record, the peer table and all events.
@@ -128,6 +93,11 @@ pub fn read_all_events<I: Inputs>(
     ensures reads { Makes (I.reads inputs.old) (I.reads inputs.new)
         (PassInTime (I.content inputs.old name.now) MayGoOn (end_of result) name.now) }
 {
-    let mut room = piece_room(alloc)?;
-    read_through(alloc, inputs, name, &mut room)
+    let mut reader = InputReader::new(alloc)?;
+    let mut all = Vec::new(alloc);
+    let mut more = Vec::new(alloc);
+    while reader.read_events(inputs, name, &mut more)? {
+        all.extend_from_slice(&more)?;
+    }
+    Ok(all)
 }
