@@ -7,6 +7,7 @@
 
 mod arena;
 mod blocks;
+mod fresh;
 mod giving;
 mod laws;
 mod merges;
