@@ -7,10 +7,10 @@ use Rattle.std.proofs.lemmas.Bool.Decides.{nat_tests}
 use Rattle.std.proofs.Math.Pow.{pow_mono}
 use Rattle.std.proofs.lemmas.List.{length-replicate, get_or-set_same, get_or-set_other}
 use Rattle.buddy_arena.specs.Space.{Free, blocks, has_order, has_block, first_block, marked, tick, num, Splits, Apart, IsOut, IsGreatest, NoneFrom, IsLeastFrom, OneEach, TakesBlock, free_count}
-use Rattle.buddy_arena.specs.Fresh.{place_of, with_block, with_blocks, fresh_free, how_many, AreKept, SplitsAt, IsFoundFrom, IsLastBelow}
+use Rattle.buddy_arena.specs.Fresh.{place_of, with_block, with_blocks, fresh_free, how_many, free_in, AreKept, AreFree, IsMapOf, SplitsAt, IsFoundFrom, IsLastBelow}
 use Rattle.buddy_arena.proofs.Firsts.{IsCarved, carved, order_fits}
 use Rattle.buddy_arena.specs.Masks.{ord, mask, free_of, IsMaskTree}
-use Rattle.buddy_arena.proofs.Masks.{bare}
+use Rattle.buddy_arena.proofs.Masks.{bare, free_len, ord_is}
 use Rattle.buddy_arena.proofs.Bits.{double}
 use Rattle.buddy_arena.proofs.Spans.{marked_len, marked_all, all_replicate, blocks_whole}
 use Rattle.buddy_arena.proofs.Others.{marked_apart, marked_apart_after, still_out, taken_apart}
@@ -375,3 +375,19 @@ unfolding with_blocks
 given_at i places f g base o is e d =
     let n : suc i ≡ i + 1 = omega arith in
     subst (λ (x : ℕ). g ≡ with_blocks x places base) n (d ∙ (ap (λ x. with_block i x f) is ∙ ap (with_block i (place_of places i)) e))
+
+-- ---- the free places of an arena
+pub map_len : (fresh : Bool) (b t : ℕ) (masks : List ℕ) (places : List (Option ℕ)) → length (free_in fresh b t masks places) ≡ 2 ^ ord b t
+map_len true b t masks places = fresh_len (ord b t) places
+map_len false b t masks places = free_len b t masks
+
+pub is_map : (fresh : Bool) (b t n : ℕ) (masks : List ℕ) (places : List (Option ℕ)) → n ≡ ord b t → b + t < 31 → IsMapOf n (free_in fresh b t masks places)
+is_map fresh b t n masks places e l = record { small = omega (arith, e, ord_is b t); places = map_len fresh b t masks places ∙ ap (λ i. 2 ^ i) (sym e) }
+
+-- all is free again
+pub all_fresh : (n b t : ℕ) (masks : List ℕ) (places : List (Option ℕ)) → n ≡ ord b t → b + t < 31 → IsMaskTree b t masks → mask b t masks ≡ 0 → length places ≡ 31 → place_of places n ≡ Some 0 → ((j : ℕ) → j ≢ n → place_of places j ≡ None) → AreFree true b t masks places × (fresh_free (ord b t) places ≡ replicate (2 ^ ord b t) true)
+all_fresh n b t masks places e l r z len is none =
+    let s : ord b t < 31 = omega (arith, ord_is b t) in
+    let here : place_of places (ord b t) ≡ Some 0 = ap (place_of places) (sym e) ∙ is in
+    let others : (j : ℕ) → j ≢ ord b t → place_of places j ≡ None = λ j d. none j (λ u. d (u ∙ e)) in
+    (record { right = r; long = len; bare = λ u. z; kept = λ u. whole_kept (ord b t) places here others s }, whole_free (ord b t) places here others s)

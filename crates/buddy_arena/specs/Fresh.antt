@@ -60,3 +60,13 @@ pub record AreFree (fresh : Bool) (base height : ℕ) (masks : List ℕ) (places
   pub long : length places ≡ 31
   pub bare : fresh ≡ true → mask base height masks ≡ 0
   pub kept : fresh ≡ true → AreKept (ord base height) (fresh_free (ord base height) places) places
+
+-- the order of an arena, and which of its places are free
+pub record FreeMap : Type 0 where
+  pub order : ℕ
+  pub free : List Bool
+
+-- the map of an arena of this order
+pub record IsMapOf (order : ℕ) (free : List Bool) : Type 0 where
+  pub small : order < 31
+  pub places : length free ≡ 2 ^ order

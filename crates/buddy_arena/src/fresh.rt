@@ -6,7 +6,7 @@
 ghost use Rattle.std.specs.Prelude.{◌≡◌, ◌≢◌, ℕ, ◌+◌, ◌-◌, ◌*◌, ◌/◌, ◌^◌, ◌<◌, ◌≤◌, true, length, Some, None, OnErr, IfOk, IfErr, IfSome, IfNone};
 ghost use Rattle.buddy_arena.specs.Space.{blocks, NoneFrom, IsGreatest, IsOut, TakesBlock, free_count, OneEach, Apart};
 ghost use Rattle.buddy_arena.specs.Masks.{ord, mask, free_of, IsMaskTree};
-ghost use Rattle.buddy_arena.specs.Fresh.{place_of, with_block, fresh_free, AreKept, SplitsAt, IsLastBelow, IsFoundFrom};
+ghost use Rattle.buddy_arena.specs.Fresh.{place_of, with_block, fresh_free, free_in, AreKept, AreFree, SplitsAt, IsLastBelow, IsFoundFrom};
 
 use crate::arena::{Block, Full};
 use crate::merges::give_to;
@@ -139,5 +139,18 @@ pub(crate) fn give_kept(masks: &mut [u64], height: u8, base: u8, places: &[Optio
 {
     for order in 0..31u8 {
         give_at(masks, height, base, order, places[usize::from(order)]);
+    }
+}
+
+/// Gives the free blocks of an arena that is fresh to its masks; of another they say already which places are free.
+pub(crate) fn settle(fresh: bool, masks: &mut [u64], height: u8, base: u8, places: &[Option<u32>])
+    requires few { (base ≤ 6) × (base + height < 31) }
+    requires free { AreFree fresh base height masks.old places.now }
+    ensures right { IsMaskTree base height masks.new }
+    ensures free { free_of base height masks.new
+        ≡ free_in fresh base height masks.old places.now }
+{
+    if fresh {
+        give_kept(masks, height, base, places);
     }
 }
