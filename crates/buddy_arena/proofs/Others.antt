@@ -30,7 +30,7 @@ still_out order old new place k p i t o = record {
 }
 
 -- two values at places apart
-marked_apart : (p i q n : ℕ) (f : List Bool) → p + i ≤ q → marked p i false (marked q n true f) ≡ marked q n true (marked p i false f)
+pub marked_apart : (p i q n : ℕ) (f : List Bool) → p + i ≤ q → marked p i false (marked q n true f) ≡ marked q n true (marked p i false f)
 marked_apart p i q n [] h = refl
 marked_apart zero zero zero zero (b ∷ f) h = refl
 marked_apart zero zero zero (suc n) (b ∷ f) h = refl
@@ -40,7 +40,7 @@ marked_apart zero (suc i) (suc q) n (b ∷ f) h = ap (λ r. false ∷ r) (marked
 marked_apart (suc p) i zero n (b ∷ f) h = absurd (omega arith)
 marked_apart (suc p) i (suc q) n (b ∷ f) h = ap (λ r. b ∷ r) (marked_apart p i q n f (omega arith))
 
-marked_apart_after : (p i q n : ℕ) (f : List Bool) → q + n ≤ p → marked p i false (marked q n true f) ≡ marked q n true (marked p i false f)
+pub marked_apart_after : (p i q n : ℕ) (f : List Bool) → q + n ≤ p → marked p i false (marked q n true f) ≡ marked q n true (marked p i false f)
 marked_apart_after p i q n [] h = refl
 marked_apart_after zero zero zero zero (b ∷ f) h = refl
 marked_apart_after zero (suc i) zero zero (b ∷ f) h = refl

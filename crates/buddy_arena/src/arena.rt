@@ -3,11 +3,9 @@
 ghost use Rattle.std.specs.Prelude.{◌≡◌, ℕ, ◌+◌, ◌-◌, ◌*◌, ◌/◌, ◌^◌, ◌<◌, ◌≤◌, true, length, vec_capacity, ◌++◌, OnErr, IfOk, IfErr, Option, slice_index_or, slice_set};
 ghost use Rattle.std.proofs.Common.{replicate};
 ghost use Rattle.buddy_arena.specs.Space.{blocks, marked, NoneFrom, IsGreatest, Space, IsOut, IsSized, TakesBlock, empty, free_count, OneEach, Apart};
-ghost use Rattle.buddy_arena.specs.Masks.{ord, free_of, IsMaskTree};
 
-use crate::merges::give_to;
-use crate::region::{all_places, bare_masks, free_all, largest_in, make_all, whole_mask};
-use crate::splits::take_from;
+use crate::free::FreePlaces;
+use crate::region::whole_mask;
 use std::alloc::{AllocError, Global};
 use std::marker::Model;
 
@@ -42,28 +40,13 @@ fn fill_up<T: Copy>(cells: &mut Vec<T>, end: usize, value: T)
     }
 }
 
-/// The order of a word of places in an arena of this order.
-fn word_order(order: u8) -> u8
-    ensures few { result ≤ 6 }
-    ensures within { result ≤ order }
-{
-    if order < 6 {
-        return order;
-    }
-    6
-}
-
 /// An arena of 2 ^ order places, each with a cell. A place is free, or out: in a block that was taken and not given back.
 ///
 /// It takes all its memory when it is made: room for its cells, and two bits a place. A cell that was never written is only
 /// reserved: pages are touched from the first on, up to the last cell that was written.
 #[derive(Drop)]
 pub struct Arena<T: Copy> {
-    /// The order of a word of places, at most 6.
-    base: u8,
-    /// How many levels stand above the words.
-    height: u8,
-    masks: Vec<u64>,
+    places: FreePlaces,
     /// The cells up to the last one that was written; those after it are as at first.
     cells: Vec<T>,
     fill: T,
@@ -74,22 +57,20 @@ pub struct Arena<T: Copy> {
 impl<T: Copy> Model for Arena<T> {
     ghost use Rattle.std.specs.Prelude.{◌≡◌, ◌+◌, ◌^◌, ◌<◌, ◌≤◌, length, vec_capacity};
     ghost use Rattle.buddy_arena.specs.Space.{Space, padded, free_count};
-    ghost use Rattle.buddy_arena.specs.Masks.{ord, free_of, IsMaskTree};
 
     ghost Value = { Space T };
 
     ghost view = { λ a. record {
-      order = ord a.base a.height;
-      free = free_of a.base a.height a.masks.items;
-      cells = padded (2 ^ ord a.base a.height) a.fill a.cells.items;
+      order = a.places.order;
+      free = a.places.free;
+      cells = padded (2 ^ a.places.order) a.fill a.cells.items;
       fill = a.fill;
     } };
 
-    ghost invariant = { λ a. (a.base ≤ 6) × (a.base + a.height < 31)
-        × IsMaskTree a.base a.height a.masks.items
-        × (length a.cells.items ≤ 2 ^ ord a.base a.height)
-        × (a.left ≡ free_count (free_of a.base a.height a.masks.items))
-        × (2 ^ ord a.base a.height ≤ vec_capacity a.cells) };
+    ghost invariant = { λ a. (length a.cells.items ≤ 2 ^ a.places.order)
+        × (a.left ≡ free_count a.places.free)
+        × (2 ^ a.places.order ≤ vec_capacity a.cells)
+        × (a.places.order < 31) };
 }
 
 impl<T: Copy> Arena<T> {
@@ -103,24 +84,11 @@ impl<T: Copy> Arena<T> {
         ensures made { IfOk result (λ a. a ≡ empty order fill) }
         ensures fresh { IfOk result (λ a. OneEach (blocks a.order a.free)) }
     {
-        let base = word_order(order);
-        Arena::with_words(alloc, order - base, base, fill)
-    }
-
-    /// An arena `height` levels above words of 2 ^ base places.
-    fn with_words(alloc: Global, height: u8, base: u8, fill: T) -> Result<Self, AllocError>
-        requires few { (base ≤ 6) × (base + height ≤ 26) }
-        ensures made { IfOk result (λ a. a ≡ empty (ord base height) fill) }
-        ensures fresh { IfOk result (λ a. OneEach (blocks a.order a.free)) }
-    {
-        let mut masks = bare_masks(alloc, height, base)?;
-        make_all(&mut masks, height, base);
-        let left = all_places(height, base);
+        let places = FreePlaces::new(alloc, order)?;
+        let left = whole_mask(order);
         let cells = Vec::with_capacity(alloc, left as usize)?;
         Ok(Arena {
-            base,
-            height,
-            masks,
+            places,
             cells,
             fill,
             left,
@@ -128,7 +96,8 @@ impl<T: Copy> Arena<T> {
     }
 
     /// Takes a block of the order: from the free blocks of the least order that is large enough the lowest one, of which the
-    /// lower half is split on, and the upper halves stay free. It takes the time of the arena's order.
+    /// lower half is split on, and the upper halves stay free. It takes the time
+    /// of the orders that it splits, and in an arena to which something was given back that of the arena's order.
     ///
     /// In an arena to which nothing was given back since it was made or cleared no order has two free blocks; then it is
     /// refused only where fewer than 2 ^ order places are free.
@@ -157,7 +126,7 @@ impl<T: Copy> Arena<T> {
             → IsOut self.new.order self.new.free p k }
         ensures sized { IsSized self.new }
     {
-        match take_from(&mut self.masks, self.height, self.base, order) {
+        match self.places.take(order) {
             Ok(block) => {
                 self.left -= whole_mask(order);
                 Ok(block)
@@ -170,7 +139,7 @@ impl<T: Copy> Arena<T> {
     pub fn places(&self) -> u64
         ensures { result ≡ 2 ^ self.now.order }
     {
-        all_places(self.height, self.base)
+        whole_mask(self.places.order())
     }
 
     /// How many places are free.
@@ -190,7 +159,7 @@ impl<T: Copy> Arena<T> {
         ensures still { (p k : ℕ) → IsOut self.old.order self.old.free p k
             → Apart p k block.place block.order → IsOut self.new.order self.new.free p k }
     {
-        give_to(&mut self.masks, self.height, self.base, block);
+        self.places.give(block);
         self.left += whole_mask(block.order);
     }
 
@@ -198,16 +167,16 @@ impl<T: Copy> Arena<T> {
     pub fn largest(&self) -> Option<u8>
         ensures { IsGreatest result (blocks self.now.order self.now.free) }
     {
-        largest_in(&self.masks, self.height, self.base)
+        self.places.largest()
     }
 
     /// Takes all back, and makes each cell what it was at first, in the time of what was taken since.
     pub fn clear(&mut self)
         ensures { self.new ≡ empty self.old.order self.old.fill }
     {
-        free_all(&mut self.masks, self.height, self.base);
+        self.places.clear();
         self.cells.clear();
-        self.left = all_places(self.height, self.base);
+        self.left = whole_mask(self.places.order());
     }
 
     /// Writes the cell `at` places from the first of a block that is out.

@@ -159,25 +159,15 @@ pub(crate) fn bare_masks(alloc: Global, height: u8, base: u8) -> Result<Vec<u64>
     Ok(vec![in alloc; 0u64; len]?)
 }
 
-#[tactic(auto, using(crate::proofs::Totals::whole_total))]
-pub(crate) fn make_all(masks: &mut [u64], height: u8, base: u8)
+/// Takes all that is free in a region, in which nothing is free as it is where `bare` says so.
+pub(crate) fn leave_bare(masks: &mut [u64], height: u8, base: u8, bare: bool)
     requires right { IsMaskTree base height masks.old }
-    requires bare { mask base height masks.old ≡ 0 }
-    requires few { (base ≤ 6) × (base + height < 32) }
+    requires few { base + height < 31 }
+    requires bare { bare ≡ true → mask base height masks.old ≡ 0 }
     ensures right { IsMaskTree base height masks.new }
-    ensures free { free_of base height masks.new ≡ replicate (2 ^ ord base height) true }
-    ensures total { free_count (free_of base height masks.new) ≡ 2 ^ ord base height }
+    ensures bare { mask base height masks.new ≡ 0 }
 {
-    make_whole(masks, height, base)
-}
-
-pub(crate) fn free_all(masks: &mut [u64], height: u8, base: u8)
-    requires right { IsMaskTree base height masks.old }
-    requires few { (base ≤ 6) × (base + height < 31) }
-    ensures right { IsMaskTree base height masks.new }
-    ensures free { free_of base height masks.new ≡ replicate (2 ^ ord base height) true }
-    ensures total { free_count (free_of base height masks.new) ≡ 2 ^ ord base height }
-{
-    wipe(masks, height, base);
-    make_all(masks, height, base)
+    if !bare {
+        wipe(masks, height, base);
+    }
 }
