@@ -25,7 +25,7 @@ pub fn places_law()
         filter (λ c. same_prefix p (place_of c)) (between old new) ≡ change_at p (entry_hop_at p old) (entry_hop_at p new) }
 {}
 
-/// Where the entries that pass a test are replaced by others that do, the changes are those between these two parts alone.
+/// If the entries that pass a test are replaced by others that do, the changes are those between these two parts alone.
 pub fn part_law()
     ensures { (t : Prefix → Bool) (T W : Entries) → AreEntries T → IsStrictlySortedBy prefix_cmp (keys_of T) → AreEntries W → AllByRecursion (λ p. t p ≡ true) (keys_of W) →
         between T (in_order (filter (λ e. not (t e.0)) T ++ W)) ≡ between (filter (λ e. t e.0) T) W }

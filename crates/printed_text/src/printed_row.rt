@@ -14,7 +14,7 @@
 //!     cert,bound,FAMILY,NUMBER      with 4 or 6 for the family
 //!     report,NAME,NUMBER
 //!
-//! ORIGIN is a number, or `none` where the announcement has no origin. HOP is an address, or for no hop `none` in answer and leaf rows and `drop` in change, table and least rows.
+//! ORIGIN is a number, or `none` if the announcement has no origin. HOP is an address, or for no hop `none` in answer and leaf rows and `drop` in change, table and least rows.
 
 ghost use Rattle.std.specs.Prelude.{option_map};
 ghost use Rattle.octet_fields.specs.Gives.{Gives};
@@ -64,7 +64,7 @@ pub enum PrintedRow {
     Replace(u64, Prefix, Option<Addr>),
     /// The event of this number removes an entry.
     Remove(u64, Prefix),
-    /// The event of this number needed so many changes.
+    /// The event of this number needed this many changes.
     Moves(u64, u64),
     /// The hop of an address.
     Answer(Addr, Option<Addr>),
@@ -78,7 +78,7 @@ pub enum PrintedRow {
     Leaf(Prefix, Option<Addr>),
     /// Of a certificate: the prefix's region is put together from its halves, and has this k.
     Join(Prefix, u64),
-    /// Of a certificate: a least table of the family has so many entries.
+    /// Of a certificate: a least table of the family has this many entries.
     Bound(Family, u64),
     /// A count.
     Report(Count, u64),
