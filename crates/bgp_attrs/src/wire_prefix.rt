@@ -67,8 +67,8 @@ pub fn path_id<E: Drop>(fault: E, ids: bool, bytes: &[u8]) -> Result<(u32, &[u8]
     }
 }
 
-/// The entry of NLRI that comes first, and what follows it: the path identifier, if entries have one, then the prefix. A cut breaks the
-/// rule, and a length over the family's `PrefixLength`.
+/// The entry of NLRI that comes first, and what follows it: the path identifier, if entries have one, then the prefix. A cut
+/// breaks the rule, and a length over the family's `PrefixLength`.
 #[tactic(auto, unfolding(wire_model::specs::Wire::nlri_at))]
 pub fn next_nlri(cut: Rule, ids: bool, family: Family, bytes: &[u8]) -> Result<(Nlri, &[u8]), Rule>
     ensures value { Gives (λ x. (nlri_as x.0, x.1.now)) result (nlri_at cut ids family bytes.now) }
@@ -79,8 +79,8 @@ pub fn next_nlri(cut: Rule, ids: bool, family: Family, bytes: &[u8]) -> Result<(
     Ok((Nlri { prefix, id }, rest))
 }
 
-/// The path identifier that comes first, or 0 if prefixes have none (RFC 7911, section 3), the prefix after it, and how many octets both
-/// take. A cut identifier is reported before a length that is too long.
+/// The path identifier that comes first, or 0 if prefixes have none (RFC 7911, section 3), the prefix after it, and how many
+/// octets both take. A cut identifier is reported before a length that is too long.
 #[tactic(auto, unfolding(wire_model::specs::Wire::nlri_at))]
 pub fn read_wire_prefix(
     bytes: &[u8],

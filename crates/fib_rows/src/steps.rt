@@ -81,7 +81,7 @@ const EVERY_STATE_ROWS: &[&str] = &[
 /// The update of the sixth step.
 const SIX_STEPS: &[u8] = b"open 10.1.2.3\ngo 0\nprepare\nstore\nend\nprepare\n";
 
-/// Where the copy fits beside the old blocks.
+/// If the copy fits beside the old blocks.
 const SIX_ROWS: &[&str] = &[
     "step,1,open,0",
     "step,2,on,0",

@@ -1,5 +1,6 @@
 //! The model of the shortest list of changes after one event. The old table answers as the routes do outside one prefix, the event's.
-//! Then the nearest table differs from it within the prefix and at one prefix above at most, which the old table alone determines.
+//! Then the nearest table differs from it within the prefix and at one prefix above at most, which the old table alone
+//! determines.
 //!
 //! The definitions stand in `specs/`. Each function here is a law: it does nothing, and its clauses hold for all values.
 

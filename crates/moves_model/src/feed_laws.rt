@@ -112,8 +112,8 @@ pub fn shortest_law()
         AllByRecursion (IsFewest every hops held elems) (moves_of_run true every hops held elems) }
 {}
 
-/// The table, what the router is told and how many changes each event needed stay what they are as more hops get numbers, if those of
-/// all routes have them.
+/// The table, what the router is told and how many changes each event needed stay what they are as more hops get numbers, if
+/// those of all routes have them.
 pub fn told_stays_law()
     ensures table { (fewest : Bool) (every n : ℕ) (hops : List Address) (more : List Elem)
         (held : Candidates) (T : Entries) (elems : List Elem) → AreNumberedAlong hops held elems →
@@ -129,7 +129,8 @@ pub fn told_stays_law()
         ≡ moves_from fewest every hops n held T elems }
 {}
 
-/// After one elementary event more the table is what that event makes of it, and what the router is told of it comes after the rest.
+/// After one elementary event more the table is what that event makes of it, and what the router is told of it comes after the
+/// rest.
 pub fn told_step_law()
     ensures table { (fewest : Bool) (every : ℕ) (hops : List Address) (held : Candidates)
         (T : Entries) (elems : List Elem) (elem : Elem) →

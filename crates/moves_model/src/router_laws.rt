@@ -26,8 +26,8 @@ pub fn parts_law()
         AreShortestInBoth (in_order R) (in_order T) (xs ++ ys) }
 {}
 
-/// The changes of both families, made one after another in the order in which the router gets them, make of the router's table one that answers as
-/// the routes do, and no table that does differs from it at fewer prefixes.
+/// The changes of both families, made one after another in the order in which the router gets them, make of the router's table
+/// one that answers as the routes do, and no table that does differs from it at fewer prefixes.
 pub fn both_law()
     ensures { (R T : Entries) (steady : Bool) →
         AllByRecursion IsPrefix (keys_of R) → AllByRecursion IsPrefix (keys_of T) →

@@ -45,8 +45,8 @@ pub enum RecordTold {
     Treated,
 }
 
-/// Whether the entries of a RIB record of this type and subtype have path identifiers, and its family; `None` if it is no RIB record
-/// that is read.
+/// Whether the entries of a RIB record of this type and subtype have path identifiers, and its family; `None` if it is no RIB
+/// record that is read.
 fn rib_of(kind: u16, sub: u16) -> Option<(bool, Family)>
     ensures { (body : List ℕ) → result ≡ model.rib_of (record { kind = kind; subtype = sub; body = body }) }
 {
@@ -141,9 +141,9 @@ fn tell(
     }
 }
 
-/// Reads the record of this type, subtype and body: its events take the place of what stood in `events`, and it returns what the record
-/// said. What is read are TABLE_DUMP_V2's peer tables and unicast RIB records, and the state changes and messages of BGP4MP and
-/// BGP4MP_ET, with path identifiers or without; all others are skipped.
+/// Reads the record of this type, subtype and body: its events take the place of what stood in `events`, and it returns what the
+/// record said. What is read are TABLE_DUMP_V2's peer tables and unicast RIB records, and the state changes and messages of
+/// BGP4MP and BGP4MP_ET, with path identifiers or without; all others are skipped.
 ///
 /// RIB records are read after the latest peer table. A record that is one has no events, and takes its place.
 ///

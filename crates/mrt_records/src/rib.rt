@@ -86,9 +86,9 @@ fn push_entries<'a>(
     Ok(rest)
 }
 
-/// Adds an event for each entry of a RIB_IPV4_UNICAST or RIB_IPV6_UNICAST record after the peer table, in their order; with `ids` of a
-/// RIB_IPV4_UNICAST_ADDPATH or RIB_IPV6_UNICAST_ADDPATH record (RFC 8050, section 4), whose entries have path identifiers. If the
-/// record is refused, or memory runs out, some may have been added.
+/// Adds an event for each entry of a RIB_IPV4_UNICAST or RIB_IPV6_UNICAST record after the peer table, in their order; with `ids`
+/// of a RIB_IPV4_UNICAST_ADDPATH or RIB_IPV6_UNICAST_ADDPATH record (RFC 8050, section 4), whose entries have path identifiers.
+/// If the record is refused, or memory runs out, some may have been added.
 #[tactic(auto, unfolding(wire_model::specs::Rib::rib))]
 pub fn push_rib(
     events: &mut Vec<Event>,

@@ -64,8 +64,9 @@ fn push_reached(events: &mut Vec<Event>, peer: Peer, attrs: &Attrs<'_>) -> Resul
     push_routes(events, area, saying)
 }
 
-/// Adds the events of an UPDATE after its header, in their order: withdrawn routes, MP_UNREACH_NLRI's, the NLRI's, and MP_REACH_NLRI's;
-/// and returns whether the message is treated as a withdrawal. If it is refused, or memory runs out, some may have been added.
+/// Adds the events of an UPDATE after its header, in their order: withdrawn routes, MP_UNREACH_NLRI's, the NLRI's, and
+/// MP_REACH_NLRI's; and returns whether the message is treated as a withdrawal. If it is refused, or memory runs out, some may
+/// have been added.
 #[tactic(auto, unfolding(wire_model::specs::Update::update))]
 pub fn push_update(
     events: &mut Vec<Event>,

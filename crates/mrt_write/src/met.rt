@@ -9,8 +9,8 @@ ghost use Rattle.mrt_write.specs.Met.{AreAmong};
 use fib_prefix::Peer;
 use std::alloc::{AllocError, Global};
 
-/// At most 256 peers, each at a place that its address and its AS determine. A candidate's peer is nearly always there, since a dump has
-/// some tens of peers and each of them has candidates for most prefixes.
+/// At most 256 peers, each at a place that its address and its AS determine. A candidate's peer is nearly always there, since a
+/// dump has some tens of peers and each of them has candidates for most prefixes.
 #[derive(Drop)]
 pub struct Met {
     places: Vec<Peer>,

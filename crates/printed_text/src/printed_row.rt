@@ -14,7 +14,8 @@
 //!     cert,bound,FAMILY,NUMBER      with 4 or 6 for the family
 //!     report,NAME,NUMBER
 //!
-//! ORIGIN is a number, or `none` if the announcement has no origin. HOP is an address, or for no hop `none` in answer and leaf rows and `drop` in change, table and least rows.
+//! ORIGIN is a number, or `none` if the announcement has no origin. HOP is an address, or for no hop `none` in answer and leaf
+//! rows and `drop` in change, table and least rows.
 
 ghost use Rattle.std.specs.Prelude.{option_map};
 ghost use Rattle.octet_fields.specs.Gives.{Gives};

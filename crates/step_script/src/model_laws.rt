@@ -1,7 +1,7 @@
 //! The model of a run in steps: look-ups that pause between their reads, beside updates that are made store by store.
 //!
 //! The definitions stand in `specs/`: `Script` is the script and its grammar, `Rows` what is printed of each step, and `Machine` what a run
-//! may do, told over lists of routes alone. Each function here is a law: it does nothing, and its clauses hold for all values.
+//! may do, defined over lists of routes alone. Each function here is a law: it does nothing, and its clauses hold for all values.
 
 ghost use Rattle.std.specs.Prelude.{◌≡◌, ◌<◌, ℕ, Option, None, Some};
 ghost use Rattle.table_model.specs.declared.family.Family.{Family};

@@ -122,7 +122,7 @@ impl StepText {
     ///
     /// # Errors
     ///
-    /// No memory.
+    /// Out of memory.
     pub fn put(&mut self, row: Row) -> Result<(), AllocError>
         requires few { self.old.steps + 1 < 2 ^ 64 }
         requires so_far { (rows : List StepRow) × HasWritten rows self.old }
@@ -140,7 +140,7 @@ impl StepText {
     ///
     /// # Errors
     ///
-    /// No memory.
+    /// Out of memory.
     pub fn finish(self) -> Result<Vec<u8>, AllocError>
         ensures { IfOk result (λ text. (rows : List StepRow) → HasWritten rows self
             → text.items ≡ rows_text 1 rows) }
