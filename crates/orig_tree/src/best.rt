@@ -36,14 +36,14 @@ pub(crate) struct Change {
     pub(crate) best: Best,
 }
 
-/// The sum, or no memory where it passes 64 bits. No cost does: it is below the number of the region's addresses.
+/// The sum, or out of memory if it passes 64 bits. No cost does: it is below the number of the region's addresses.
 fn sum(a: u64, b: u64) -> Result<u64, AllocError>
     ensures { IfOk result (λ n. n ≡ a + b) }
 {
     a.checked_add(b).ok_or(AllocError)
 }
 
-/// The cost of two halves, which is one more where no hop is best for both.
+/// The cost of two halves, which is one more if no hop is best for both.
 fn joint_k(low: u64, high: u64, apart: bool) -> Result<u64, AllocError>
     ensures { IfOk result (λ k. k ≡ low + high + cond apart 1 0) }
 {
@@ -106,7 +106,7 @@ pub(crate) fn fresh(left: u8, inherited: u16, set: Option<u16>) -> Best
     }
 }
 
-/// The same, where the route is given and has another hop.
+/// The same, if the route is given and has another hop.
 fn beside(left: u8, inherited: u16, hop: u16) -> Best
     requires { hop ≢ inherited }
     ensures { (d q : ℕ) → left ≤ d → IsRegionBest d (λ a. lpm (put (bits_of left q) hop []) a inherited)
@@ -137,7 +137,7 @@ pub(crate) fn best_at<'a>(bests: &'a Bests, i: usize, none: &'a Best) -> &'a Bes
     }
 }
 
-/// What a half keeps; where it is no node, what a region keeps whose addresses all get the hop.
+/// What a half keeps; if it is no node, what a region keeps whose addresses all get the hop.
 fn half_keeps<'a>(bests: &'a Bests, half: Option<usize>, none: &'a Best, bare: &'a Best) -> &'a Best
     requires { none.now ≡ best_one 0 }
     ensures { result.now ≡ best_behind (best_in bests.now) half bare.now }
@@ -168,7 +168,7 @@ pub(crate) fn join_kept(
     Best::joined(alloc, low, high)
 }
 
-/// No changes yet, with room for those on a way of so many bits. The list's own room is used again.
+/// No changes yet, with room for those on a way of `depth` bits. The list's own room is used again.
 pub(crate) fn no_changes(mut spare: Vec<Change>, depth: u8) -> Result<Vec<Change>, AllocError>
     ensures { IfOk result (λ v. v.items ≡ []) }
 {
@@ -206,7 +206,7 @@ pub(crate) fn commit(bests: &mut Bests, changes: &mut Vec<Change>)
     }
 }
 
-/// Takes changes back, the last first, and hands back the room that they took. It takes no memory.
+/// Takes changes back, the last first, and returns the room that they took. It takes no memory.
 pub(crate) fn revert(bests: &mut Bests, mut changes: Vec<Change>) -> Vec<Change>
     ensures kept { (j : ℕ) → j ≤ vec_len bests.old.halves
         → best_in bests.new j ≡ back changes.items (best_in bests.old) j }
@@ -218,7 +218,7 @@ pub(crate) fn revert(bests: &mut Bests, mut changes: Vec<Change>) -> Vec<Change>
     changes
 }
 
-/// Makes more places, so many in all. None keeps anything else than before.
+/// Makes more places, `len` in all. None keeps anything else than before.
 pub(crate) fn lengthen(bests: &mut Bests, len: usize) -> Result<(), AllocError>
     ensures kept { (j : ℕ) → best_in bests.new j ≡ best_in bests.old j }
     ensures len { vec_len bests.old.halves ≤ vec_len bests.new.halves }
@@ -230,7 +230,7 @@ pub(crate) fn lengthen(bests: &mut Bests, len: usize) -> Result<(), AllocError>
     Ok(())
 }
 
-/// What is kept where there is the root alone, and all addresses get none.
+/// What is kept if there is the root alone, and all addresses get none.
 pub(crate) fn root_best(alloc: Global) -> Bests
     ensures kept { (i : ℕ) → best_in result i ≡ best_one 0 }
     ensures alone { vec_len result.halves ≡ 0 }

@@ -2,12 +2,12 @@
 //! of its entry.
 //!
 //! A look-up, a change, the making of room and the question whether a whole prefix gets one hop walk down the prefix's bits,
-//! 129 nodes at most, the root among them; many routes or entries are set in one walk, where they stand in the order of
+//! 129 nodes at most, the root among them; many routes or entries are set in one walk, if they stand in the order of
 //! prefixes. Contracts see two lists of entries in the order of prefixes. All nodes
-//! of a tree lie in one array, each at a place of its own, which its parent tells; a node takes 24 octets, and the place of one
-//! that is dropped is taken again.
+//! of a tree lie in one array, each at a place of its own, which its parent links to; a node takes 24 octets, and the place of
+//! one that is dropped is taken again.
 //! Beside them lies what each node keeps of its region, 24 octets too: the hops that are best there, and what the region costs
-//! under one of them. That is mended where a route changes, on the way to its prefix and within it, and can be put back.
+//! under one of them. That is mended when a route changes, on the way to its prefix and within it, and can be put back.
 #![tactic(auto)]
 
 mod answers;
