@@ -1,5 +1,5 @@
-//! What is told of a run: its routes, the announcements that are Invalid, the changes of the kept table, how many each event needed, the answers, the table,
-//! the least table, its certificate and the counts.
+//! What is written of a run: its routes, the announcements that are Invalid, the changes of the kept table, how many each event
+//! needed, the answers, the table, the least table, its certificate and the counts.
 //!
 //! The printed table is the kept one, which is the least table's old table too. The text is made section by section, from what
 //! the engine leaves once its candidates are let go: routes, entries and the rows of the certificate are written as they are
@@ -62,7 +62,7 @@ fn look_up_all<L: Ledger>(
     Ok(answers)
 }
 
-/// Each address with its answer. Tries are built where an address is asked for.
+/// Each address with its answer. Tries are built if an address is asked for.
 fn answers(alloc: Global, final_fib: &FinalFib, asks: &[Addr]) -> Result<Vec<Answer>, AllocError>
     ensures { IfOk result (λ answers. map answer_as answers.items
         ≡ answers_to final_fib.now.sizes.direct final_fib.now.routes (map addr_as asks.now)) }
@@ -141,7 +141,7 @@ fn write_changes(
     Ok(())
 }
 
-/// Writes how many changes each event needed, where that is told. The list is let go then.
+/// Writes how many changes each event needed, if that is asked for. The list is let go then.
 fn write_moves(moves: Vec<Moves>, text: &mut RunText<'_>) -> Result<(), AllocError>
     requires { IsReady text.old }
     ensures { OnOk result (WritesRows text.old text.new (map of_moves (map moves_as moves.items))) }

@@ -144,7 +144,7 @@ fn arena_of(family: Family, full: &TrieFull) -> u8
     }
 }
 
-/// The outcome where a run ends before its script does.
+/// The outcome if a run ends before its script does.
 fn outcome_of_step(error: StepError) -> Outcome
     ensures { result ≡ of_step error }
 {

@@ -24,7 +24,7 @@ use fib_words::MovesWords;
 use router_moves::{RouterMoves, moves_to_routes};
 use std::alloc::{AllocError, Global};
 
-/// The event that a router's changes are told as.
+/// The event as which a router gets its changes.
 const EVENT: u64 = 1;
 
 /// The rows: the changes, how many there are, and those that prove that no fewer would do.

@@ -32,7 +32,7 @@ struct Words {
     sizes: Sizes,
 }
 
-/// What is told of them.
+/// What is reported of them.
 #[derive(Clone, Copy)]
 struct Figures {
     needs: FamilyNeeds,
@@ -73,7 +73,7 @@ fn rounds(words: &mut Rest) -> anyhow::Result<Rounds> {
     Ok(Rounds { apart, chained })
 }
 
-/// Room for a whole table of today, behind as many direct bits as the next word says, 18 at most.
+/// Room for a whole table of today, after as many direct bits as the next word says, 18 at most.
 fn sizes(words: &mut Rest) -> anyhow::Result<Sizes> {
     let direct = number(words)?;
     if direct > 18 {

@@ -26,7 +26,7 @@ fn hop_word(hop: Hop) -> u32
     HOP + u32::from(hop.0)
 }
 
-/// The node of a word, nothing where it is a hop.
+/// The node of a word, nothing if it is a hop.
 fn word_node(word: u32, nodes: &Arena<Node>) -> Option<Node>
     requires sized { IsSized nodes.now }
     requires word { (leaves : Space ℕ) × (d : ℕ) × IsWord nodes.now leaves word d }
@@ -38,11 +38,11 @@ fn word_node(word: u32, nodes: &Arena<Node>) -> Option<Node>
     Some(nodes.read(word))
 }
 
-/// Puts the block of a word's node aside, nothing where it is a hop.
+/// Puts the block of a word's node aside, nothing if it is a hop.
 ///
 /// # Errors
 ///
-/// No memory.
+/// Out of memory.
 fn set_aside_word(word: u32, node_blocks: &mut Blocks) -> Result<(), AllocError>
     requires time { node_blocks.old.time < 18446744073709551615 }
     ensures nodes { OnlyAside node_blocks.old node_blocks.new }
@@ -57,11 +57,11 @@ fn set_aside_word(word: u32, node_blocks: &mut Blocks) -> Result<(), AllocError>
     })
 }
 
-/// Puts all that a word leads to aside, for a region of so many more bits that has one answer now, and makes that its word.
+/// Puts all that a word leads to aside, for a region of `bits` more bits that has one answer now, and makes that its word.
 ///
 /// # Errors
 ///
-/// No memory.
+/// Out of memory.
 fn leave_word(
     bits: u8,
     word: u32,
@@ -132,7 +132,7 @@ fn make_word<R: Region>(
     Ok(place)
 }
 
-/// The direct word of a slot's region, of so many more bits, beside the old one: as it was where no address of the slot gets
+/// The direct word of a slot's region, of `bits` more bits, beside the old one: as it was if no address of the slot gets
 /// another answer.
 ///
 /// # Errors

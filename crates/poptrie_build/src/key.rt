@@ -17,7 +17,7 @@ pub(crate) trait Key: Copy {
         ensures bits { result ≡ wide self / 2 ^ 122 }
         ensures few { result < 64 };
 
-    /// The bits behind its first ones.
+    /// The bits after its first ones.
     fn rest(self, count: u8) -> Self
         requires { count < 32 }
         ensures { wide result ≡ wide self * 2 ^ count % 2 ^ 128 };
