@@ -856,7 +856,7 @@ impl Flat {
         self.row_of(prefix)
     }
 
-    /// Adds what is offered for a prefix, by path source. Where prefixes come in order, the row that one call returns is `near`
+    /// Adds what is offered for a prefix, by path source. If prefixes come in order, the row that one call returns is `near`
     /// in the next one, which hardly searches then.
     ///
     /// # Errors

@@ -1,6 +1,6 @@
 //! Prefixes that stand twice.
 //!
-//! Printed lists stand in the order of prefixes, where one look at neighbours shows that no prefix stands twice. Only a list
+//! Printed lists stand in the order of prefixes, in which one look at neighbours shows that no prefix stands twice. Only a list
 //! that doesn't is put into a set.
 
 ghost use Rattle.std.specs.Prelude.{◌≡◌, map, option_map, true, IfOk};

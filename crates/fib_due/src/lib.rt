@@ -2,7 +2,7 @@
 //!
 //! The outcomes with their lines and statuses; what is due of the words and of what the inputs hold, as definitions over them; and
 //! laws of what is due: that a run's table sends every address where its routes send it and is least, that a check decides, that
-//! texts that are compared differ at a named place if they do, and that a router's changes are the fewest.
+//! a comparison of texts names where they differ, and that a router's changes are the fewest.
 #![tactic(auto)]
 
 mod outcome;

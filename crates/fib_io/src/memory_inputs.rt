@@ -60,7 +60,7 @@ impl MemInputs {
     ghost use Rattle.fib_io.specs.MemInputs.{read_most, read_plan};
 
     /// Holds these octets under these names. Of two pairs with one name the first counts. The reads with the
-    /// numbers of `failing` fail, where the first read has the number 1. It takes no memory.
+    /// numbers of `failing` fail; the first read has the number 1. It takes no memory.
     pub fn new(names: Vec<(String, Vec<u8>)>, failing: Vec<u64>) -> MemInputs
         ensures content { ⟦<MemInputs as Inputs>⟧.content result ≡ held_under names.items }
         ensures faults { ⟦<MemInputs as Inputs>⟧.faults result ≡ (λ _. 0) }

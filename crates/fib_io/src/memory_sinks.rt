@@ -37,7 +37,7 @@ impl MemSink {
     ghost use Rattle.fib_io.specs.Plan.{IsNewPlan};
     ghost use Rattle.fib_io.specs.MemSink.{room_left, write_most, write_plan};
 
-    /// Takes memory for `room` octets. The writes with the numbers of `failing` fail, where the first write has
+    /// Takes memory for `room` octets. The writes with the numbers of `failing` fail; the first write has
     /// the number 1.
     pub fn new(alloc: Global, room: usize, failing: Vec<u64>) -> Result<MemSink, AllocError>
         ensures written { IfOk result (λ sink. ⟦<MemSink as Sink>⟧.written sink ≡ Some []) }

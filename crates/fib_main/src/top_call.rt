@@ -233,7 +233,7 @@ pub fn run_fib<I: Inputs, O: Sink, E: Sink>(
     // differs from the one before at fewer prefixes. Else there are no such rows.
     ensures moves { IfRan (due_by words.now (I.content inputs.old)) MovesFewest }
 
-    // If changes are told in steady order: a router that makes them one by one sends each address where the routes before the
+    // If changes come in steady order: a router that makes them one by one sends each address where the routes before the
     // event at hand send it or where those after it do, however many of them it has made, and never back.
     ensures steady { IfRan (due_by words.now (I.content inputs.old)) MissesNone }
 
@@ -286,7 +286,7 @@ pub fn run_fib<I: Inputs, O: Sink, E: Sink>(
     // send it, no table that does differs from its own at fewer prefixes, and the rows prove it in each family.
     ensures reroutes { IfMoved (due_by words.now (I.content inputs.old)) Reroutes }
 
-    // If they are told in steady order: while the router makes them one by one, it sends each address where its table sent it or
+    // If they come in steady order: while the router makes them one by one, it sends each address where its table sent it or
     // where the routes send it, and never back.
     ensures reroutes_steadily { IfMoved (due_by words.now (I.content inputs.old)) ReroutesSteadily }
 

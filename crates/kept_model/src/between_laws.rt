@@ -18,7 +18,7 @@ pub fn sum_law()
 {}
 
 /// They stand in the order of prefixes, one at each prefix at most: at a prefix stands what makes the first table's hop there
-/// the second's, and nothing where both tables have the same.
+/// the second's, and nothing if both tables have the same.
 pub fn places_law()
     ensures order { (old new : Entries) → IsStrictlySortedBy prefix_cmp (map place_of (between old new)) }
     ensures each { (old new : Entries) (p : Prefix) → AreEntries old → AreEntries new →
