@@ -29,7 +29,7 @@ pub record IsAsked (a : Against) (R T : Entries) : Type 0 where
   pub hops : (p : Prefix) → old_at (map entry_as a.old.now) p ≡ old_at T p
   pub below : (p : Prefix) → none_below (map entry_as a.old.now) p ≡ none_below T p
 
--- what is wrong with the rest of the rows: the first that is, or behind the bound any row
+-- what is wrong with the rest of the rows: the first that is, or after the bound any row
 abbrev pub wrong_in_rest : Entries → Entries → Family → Option ℕ → List CertRow → List ModelDemand → ℕ → Option NoMoves
 wrong_in_rest R T f None rows st n = wrong_moves_row R T f rows st n
 wrong_in_rest R T f (Some b) rows st n = no_row_more rows n

@@ -9,7 +9,7 @@ use Rattle.poptrie_build.specs.declared.node.Node.{Node}
 use Rattle.poptrie_set.specs.declared.reading.At.{At}
 use Rattle.poptrie_set.specs.declared.reading.At.TheVariants as at
 
--- the first where the bit is set
+-- the first if the bit is set
 abbrev pub ByBit : ℕ → Type 0 → Type 0 → Type 0
 ByBit zero P Q = Q
 ByBit (suc b) P Q = P
@@ -28,7 +28,7 @@ ReadsOn (suc left) nodes N leaves L i key h =
 abbrev pub CanRead : List Node → List ℕ → ℕ → ℕ → Type 0
 CanRead nodes leaves i key = (left : ℕ) × (h : ℕ) × (N : ℕ → Bool) × (L : ℕ → Bool) × ReadsOn left nodes N leaves L i key h
 
--- the bits that a node of this stride is asked with: those of the address after the direct ones and so many strides
+-- the bits that a node of this stride is asked with: those of the address after the direct ones and n strides
 abbrev pub key_after : ℕ → ℕ → Addr → ℕ
 key_after s stride a = key_as a * 2 ^ (s + 6 * stride) % 2 ^ 128
 

@@ -25,7 +25,7 @@ pub record Announced : Type 0 where
   pub peer_as : ℕ
   pub origin : Option ℕ
 
--- A validated ROA payload (RFC 6811, 2): the AS may announce the prefix, and prefixes within it of at most so many bits.
+-- A validated ROA payload (RFC 6811, 2): the AS may announce the prefix, and prefixes within it of at most n bits.
 pub record Vrp : Type 0 where
   pub prefix : Prefix
   pub maxlen : ℕ

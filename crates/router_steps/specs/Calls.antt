@@ -43,7 +43,7 @@ cancel_row (Ok a) = cancelled
 cancel_row (Err e) = late
 
 -- ---- steps that concern the other family
--- the family's look-ups stay, and what is begun stays where it is of the family
+-- the family's look-ups stay, and what is begun stays if it is of the family
 pub record IsElsewhere (w : World) (f : Family) (s t : State) : Type 0 where
   pub ended : t.ended ≡ s.ended
   pub lookups : (n : ℕ) → t.lookups f n ≡ s.lookups f n
