@@ -1,4 +1,4 @@
-//! A checker of certificates that trusts nobody: it reads routes, a table and rows, whoever wrote them, and says yes only
+//! A checker of certificates that trusts nobody: it reads routes, a table and rows, whoever wrote them, and says yes
 //! only if the table answers every address as the routes do and no table that does has fewer entries.
 //!
 //! Both tables are held as runs of addresses with one hop, which say where they first differ, and whether all addresses of

@@ -82,7 +82,7 @@ fn dot_at(text: &[u8]) -> Option<usize>
     text.iter().position(|b| *b == b'.')
 }
 
-/// Reads a decimal number from 0 to 255 and the dot after it, and gives what stands after the dot.
+/// Reads a decimal number from 0 to 255 and the dot after it, and returns what stands after the dot.
 fn read_octet(text: &[u8]) -> Option<(u8, &[u8])>
     ensures some { IfSome result (λ r. text.now ≡ decimal r.0 ++ 46 ∷ r.1.now) }
     ensures fits { IfSome result (λ r. r.0 < 256) }

@@ -314,7 +314,8 @@ checked used = used >>= λ u. Ok (Checked u)
 abbrev pub made : Result Printed Stop → Result Output Stop
 made printed = printed >>= λ p. Ok (Made p)
 
--- A run in steps may print any run of its machine, so its inputs alone don't determine its text; but they determine what is refused.
+-- A run in steps may print any run of its machine, so its inputs alone don't determine its text. They do determine what is
+-- refused.
 abbrev pub stepped : Result Stepping Stop → Result Output Stop
 stepped stepping = stepping >>= λ s. Err Untold
 

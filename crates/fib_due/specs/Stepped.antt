@@ -28,7 +28,8 @@ EndsEarly s NoMemory = Unit {0}
 EndsEarly s ReadFault = Unit {0}
 EndsEarly s outcome = ⊥
 
--- at Done out has the rows of a run over the whole script, at a fault of writing the first n octets of such rows; else it ended early
+-- at Done out has the rows of a run over the whole script, at a fault of writing the first n octets of such rows; else it ended
+-- early
 abbrev pub EndsRun : Stepping → Option (List ℕ) → Option (List ℕ) → Outcome → Type 0
 EndsRun s old new Done = (text : List ℕ) × IsTextOf s text × Adds old new text
 EndsRun s old new WriteFault = (text : List ℕ) × IsTextOf s text × AddsSome old new text

@@ -262,7 +262,7 @@ impl Engine {
         Ok(tables)
     }
 
-    /// Ends the load: makes the kept tables, which are least for the routes, and gives their entries; counts what tries of the
+    /// Ends the load: makes the kept tables, which are least for the routes, and returns their entries; counts what tries of the
     /// routes need.
     ///
     /// # Errors

@@ -215,7 +215,7 @@ impl Parts {
         Ok(self.commit(waiting))
     }
 
-    /// Makes an elementary event after the load, and gives its changes. One that changes no chosen hop asks no table, unless a
+    /// Makes an elementary event after the load, and returns its changes. One that changes no chosen hop asks no table, unless a
     /// snapshot follows it.
     ///
     /// # Errors

@@ -250,7 +250,7 @@ fn open_input<N: ByName>(
 }
 
 impl<N: ByName + Drop> FileInputs<N> {
-    /// Opens the name, if it isn't open yet, and gives its place among the open inputs.
+    /// Opens the name, if it isn't open yet, and returns its place among the open inputs.
     fn open_named(&mut self, name: &str) -> Result<usize, InFault>
         ensures content { N.content self.new.files ≡ N.content self.old.files }
         ensures faults { self.new.faults ≡ self.old.faults }

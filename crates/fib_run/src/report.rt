@@ -101,7 +101,7 @@ pub struct InputCounts {
     pub updates: Counts,
 }
 
-/// Writes the routes, and gives how many there are.
+/// Writes the routes, and returns how many there are.
 fn write_routes<'a>(
     final_fib: &FinalFib,
     text: RunText<'a>,
@@ -184,7 +184,7 @@ fn write_answers(
     text.answers(&answers(alloc, final_fib, asks)?)
 }
 
-/// Writes the kept table, and gives how many entries it has.
+/// Writes the kept table, and returns how many entries it has.
 fn write_table<'a>(
     final_fib: &FinalFib,
     text: RunText<'a>,
@@ -210,7 +210,7 @@ fn write_least<'a>(final_fib: &FinalFib, text: RunText<'a>) -> Result<RunText<'a
     Ok(rows.end().0)
 }
 
-/// Writes the kept table, the least one and its certificate, and gives how many entries the kept one has.
+/// Writes the kept table, the least one and its certificate, and returns how many entries the kept one has.
 fn write_tables<'a>(
     final_fib: FinalFib,
     text: RunText<'a>,

@@ -279,7 +279,7 @@ fn feed_both<I: Inputs>(
     Ok(InputCounts { load, updates })
 }
 
-/// Takes the dump and the updates, and gives the text.
+/// Takes the dump and the updates, and returns the text.
 #[tactic(auto, unfolding(fib_due::specs::Due::told_at))]
 fn text_of<I: Inputs>(
     alloc: Global,
@@ -337,7 +337,7 @@ fn made_inputs(alloc: Global, made: &MakeWords) -> Result<SureInputs, AllocError
     Ok(SureInputs::new(names))
 }
 
-/// Takes both made inputs as a run takes its inputs, and gives the rows of the counts.
+/// Takes both made inputs as a run takes its inputs, and returns the rows of the counts.
 #[tactic(auto, unfolding(fib_due::specs::Due::made_at))]
 fn take_made(
     alloc: Global,
@@ -361,7 +361,7 @@ fn take_made(
     }
 }
 
-/// Makes routes and updates, takes them as a run takes its inputs, and gives the rows of the counts.
+/// Makes routes and updates, takes them as a run takes its inputs, and returns the rows of the counts.
 pub fn made_for(alloc: Global, made: &MakeWords) -> Result<Vec<u8>, Outcome>
     requires { AreWithinLimits (CommandWords.Make made.now) }
     ensures due { GivesDue (λ v. v.items) result
@@ -376,7 +376,7 @@ pub fn made_for(alloc: Global, made: &MakeWords) -> Result<Vec<u8>, Outcome>
     take_made(alloc, made, &mut inputs, &mut state)
 }
 
-/// Takes the asks, the list of VRPs, the dump and the updates, and gives the text.
+/// Takes the asks, the list of VRPs, the dump and the updates, and returns the text.
 #[tactic(auto, unfolding(fib_due::specs::Due::run_at))]
 pub fn run_for<I: Inputs>(
     alloc: Global,

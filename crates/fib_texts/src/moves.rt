@@ -56,8 +56,8 @@ fn reply_to(alloc: Global, moves: Result<RouterMoves, SameError>) -> Result<Repl
     }
 }
 
-/// Finds the fewest changes that make a router forward as printed routes do, and gives the reply: their rows, or which prefix stands
-/// twice in a text.
+/// Finds the fewest changes that make a router forward as printed routes do, and returns the reply: their rows, or which prefix
+/// stands twice in a text.
 pub fn moves_for<I: Inputs>(
     alloc: Global,
     inputs: &mut I,

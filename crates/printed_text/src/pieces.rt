@@ -131,7 +131,7 @@ impl TextReader {
         }
     }
 
-    /// Ends the text, and gives what a checker uses of it.
+    /// Ends the text, and returns what a checker uses of it.
     ///
     /// # Errors
     ///

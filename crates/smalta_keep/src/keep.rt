@@ -286,7 +286,7 @@ impl Keep {
         self.dirty.keep(former_prefix(&repair.former));
     }
 
-    /// Makes the table least for the routes, with the table as the old one, and gives the changes.
+    /// Makes the table least for the routes, with the table as the old one, and returns the changes.
     ///
     /// # Errors
     ///
@@ -305,7 +305,7 @@ impl Keep {
         Ok(self.commit(repair).snapshot)
     }
 
-    /// Gives a prefix this route, or with `Hop::NONE` none, and repairs the table within the prefix; gives the changes. A table
+    /// Gives a prefix this route, or with `Hop::NONE` none, and repairs the table within the prefix; returns the changes. A table
     /// that answered as the routes still does.
     ///
     /// # Errors
