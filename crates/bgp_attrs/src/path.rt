@@ -123,9 +123,9 @@ pub fn path_length(bytes: &[u8], wide: bool) -> Result<u32, Rule>
     Ok(read_path(bytes, wide)?.length)
 }
 
-/// The AS in which a route originates by an AS_PATH's value, whose AS numbers have four octets if it is wide and else two: the
-/// last AS number of the last segment, if that is a sequence that isn't empty, else none (RFC 6811, section 2). A wrong segment
-/// breaks `AttributeValue`.
+/// The AS in which a route originates by an AS_PATH's value (RFC 6811, section 2): the last AS number of the last segment, if
+/// that is a sequence that isn't empty, else none. AS numbers have four octets if the path is wide and else two. A wrong
+/// segment breaks `AttributeValue`.
 ///
 /// The octets are fewer than 2^32, so that the path's length fits.
 pub fn path_origin(bytes: &[u8], wide: bool) -> Result<Option<u32>, Rule>

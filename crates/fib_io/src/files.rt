@@ -5,10 +5,10 @@
 //! first; so a pipe can be read once, in order. There is one count of faults, a `u64`, which each error raises, except running
 //! out of memory.
 //!
-//! What a file holds no contract can say. `ByName` and `ReadSeek` say what a system may report, and the inputs are proved
-//! over any: a read gives what stands at its place, opens exactly the name given, and only if it isn't open, goes to no
-//! place where the last read ended, and passes on what one read of the reader gave. What is trusted is the calls of the
-//! system under `SystemFiles` and `File`, which say nothing.
+//! What a file holds no contract can say. `ByName` and `ReadSeek` say what a system may report, and the inputs are proved over
+//! any. A read gives what stands at its place. It opens exactly the name given, and only if it isn't open. It goes to no place
+//! where the last read ended, and passes on what one read of the reader gave. What is trusted is the calls of the system under
+//! `SystemFiles` and `File`, which say nothing.
 
 ghost use Rattle.std.specs.Prelude.{◌≡◌, ◌↔◌, ℕ, ◌+◌, ◌++◌, ◌≤◌, ◌<◌, List, [], Option, Some, None, option_map, length, slice_get, IfOk, IfSome, IsNone, OnOk};
 ghost use Rattle.std.specs.String.{string_bytes};

@@ -134,14 +134,14 @@ fn run_and_tell<I: Inputs, O: Sink, E: Sink>(
     outcome
 }
 
-/// Does what the words say: reads the inputs that they name, and writes to `out` the rows of a run, the verdict on a printed text, the
-/// rows of a run in steps, whether texts say the same table, a checkpoint, what a router must change, or the verdict on what it was told
-/// to change.
+/// Does what the words say. It reads the inputs that they name, and writes its reply to `out`: the rows of a run, the verdict on
+/// a printed text, the rows of a run in steps, whether texts say the same table, a checkpoint, what a router must change, or the
+/// verdict on what it was told to change.
 ///
-/// What is due is a function of the words and of what the inputs hold, but for the text of a run in steps, which is that of one
-/// of the runs that its machine allows. The outcome is the due one, except that a fault of reading or running out of memory may
-/// come before it, and a fault of writing in place of Done, CheckNo, MovesNo and Differ. Nothing is written to `out` before all
-/// is accepted. Every outcome but Done is reported by one line to `err`, and a fault of `err` changes nothing.
+/// What is due is a function of the words and of what the inputs hold, except for the text of a run in steps, which is that of
+/// one of the runs that its machine allows. The outcome is the due one, except that a fault of reading or running out of memory
+/// may come before it, and a fault of writing in place of Done, CheckNo, MovesNo and Differ. Nothing is written to `out` before
+/// all is accepted. Every outcome but Done is reported by one line to `err`, and a fault of `err` changes nothing.
 ///
 /// It costs n log n in the octets read and the rows written, and the routes' number times the lengths of their prefixes. In
 /// memory are, at most, the asks, one line or record and a piece while an input is read, the candidates of all peers, the kept
@@ -163,11 +163,11 @@ pub fn run_fib<I: Inputs, O: Sink, E: Sink>(
     ensures read { ReadsFrom (read_by words.now (I.content inputs.old)) (I.faults inputs.old)
         (I.faults inputs.new) result }
 
-    // Each input that the words name is read in order from its first octet on, each place once, and nothing is read after it failed
-    // or ended: asks or a script, then the list of VRPs, then the dump, then the updates, each to its end before the next; and
-    // nothing after the input that is refused. No read of an input is made once what was read of it before is to be refused: a line
-    // of the asks that has its line feed, a record that is whole or whose header is refused, an event. A name that stands for two
-    // inputs is read for each. So each of them may be a pipe.
+    // Each input that the words name is read in order from its first octet on, each place once, and nothing is read after it
+    // failed or ended. They come one after another, each to its end before the next: asks or a script, then the list of VRPs,
+    // then the dump, then the updates; and nothing is read after the input that is refused. No read of an input is made once what
+    // was read of it before is to be refused: a line of the asks that has its line feed, a record that is whole or whose header
+    // is refused, an event. A name that stands for two inputs is read for each. So each of them may be a pipe.
     ensures reads { Makes (I.reads inputs.old) (I.reads inputs.new)
         (ReadsAt (I.content inputs.old) (asked_by words.now) result) }
 
@@ -210,18 +210,18 @@ pub fn run_fib<I: Inputs, O: Sink, E: Sink>(
         (OneRose (read_by words.now (I.content inputs.old)) (I.faults inputs.old)
         (I.faults inputs.new)) (Rose (O.faults out.old) (O.faults out.new)) result }
 
-    // What is due to be printed of a run: the changes add up to the table, the table sends every address where the routes send it,
-    // each answer is the longest match among the routes, and the least table sends every address where the routes send it
-    // and has no more entries in either family than any table that does.
+    // What is due to be printed of a run: the changes add up to the table. The table sends every address where the routes send
+    // it. Each answer is the longest match among the routes. The least table sends every address where the routes send it, and
+    // has no more entries in either family than any table that does.
     ensures sum { IfDue (due_by words.now (I.content inputs.old)) SumsUp }
     ensures forwards { IfDue (due_by words.now (I.content inputs.old)) Forwards }
     ensures answers { IfRan (due_by words.now (I.content inputs.old)) Answers }
     ensures least { IfDue (due_by words.now (I.content inputs.old)) HasLeast }
 
     // On the way: the changes stand in the order of their events, and up to each event add up to a table. It sends every address
-    // where the routes send it then, and after the load and after each snapshot it is a least table. Unless the fewest changes are
-    // asked for, after any other event it has the entries that it had before, but for those within the prefix of which the event
-    // changes the chosen hop, and no table that differs from the one before only there has fewer entries.
+    // where the routes send it then, and after the load and after each snapshot it is a least table. Unless the fewest changes
+    // are asked for, after any other event it has the entries that it had before, except within the prefix of which the event
+    // changes the chosen hop; and no table that differs from the one before only there has fewer entries.
     ensures kept { IfRan (due_by words.now (I.content inputs.old)) KeepsTables }
     ensures follows { IfRan (due_by words.now (I.content inputs.old)) Follows }
     ensures renewed { IfRan (due_by words.now (I.content inputs.old)) RenewsLeast }
@@ -267,9 +267,9 @@ pub fn run_fib<I: Inputs, O: Sink, E: Sink>(
     ensures due_saves { result ≡ Outcome.Done → IfSaved
         (due_by words.now (I.content inputs.old)) Restores }
 
-    // What is due of a run is judged by its list of VRPs, which is empty without the option: the announcements that are reported
-    // as Invalid are exactly those that the list calls so, each with the first VRP that covers it, and the routes are those of
-    // the events in which each of them is its withdrawal.
+    // What is due of a run is judged by its list of VRPs, which is empty without the option. The announcements that are reported
+    // as Invalid are exactly those that the list calls so, each with the first VRP that covers it. The routes are those of the
+    // events in which each of them is its withdrawal.
     ensures judged { Judges (I.content inputs.old) (asked_by words.now) }
 
     // A check that is due says yes exactly if the printed rows are a certificate, whoever wrote them. The printed least
@@ -282,16 +282,16 @@ pub fn run_fib<I: Inputs, O: Sink, E: Sink>(
     // the least address at which one differs, and the first text that does there.
     ensures compared { IfCompared (due_by words.now (I.content inputs.old)) Compares }
 
-    // What a router must change: the changes are possible one after another and make its table send every address where the routes
-    // send it, no table that does differs from its own at fewer prefixes, and the rows prove it in each family.
+    // What a router must change: the changes are possible one after another and make its table send every address where the
+    // routes send it. No table that does differs from its own at fewer prefixes, and the rows prove it in each family.
     ensures reroutes { IfMoved (due_by words.now (I.content inputs.old)) Reroutes }
 
     // If they come in steady order: while the router makes them one by one, it sends each address where its table sent it or
     // where the routes send it, and never back.
     ensures reroutes_steadily { IfMoved (due_by words.now (I.content inputs.old)) ReroutesSteadily }
 
-    // What a router was told to change: a check of it that is due says yes exactly if it is all this, but for a steady order, and
-    // the rows beside it prove it, whoever wrote them.
+    // What a router was told to change: a check of it that is due says yes exactly if it is all this, except for a steady order,
+    // and the rows beside it prove it, whoever wrote them.
     ensures judges_moves { IfClaimed (due_by words.now (I.content inputs.old)) DecidesMoves }
 {
     run_and_tell(alloc, words, inputs, out, err)

@@ -155,8 +155,8 @@ impl Vrps {
         decide(&self.list, &self.sorted, &self.links, prefix, origin)
     }
 
-    /// What is left of an event if routes that are Invalid are dropped (RFC 6811, section 3): an announcement of such a route is
-    /// the withdrawal of its way and prefix, with the number of the first VRP that covers it; any other event stays as it is. It
+    /// What is left of an event if routes that are Invalid are dropped (RFC 6811, section 3). An announcement of such a route is
+    /// the withdrawal of its way and prefix, with the number of the first VRP that covers it. Any other event stays as it is. It
     /// costs what `state` does, and takes no memory.
     pub fn judge(&self, event: &Event) -> (Event, Option<u64>)
         ensures { (event_as result.0, result.1) ≡ judged_by_vrps self.now (event_as event.now) }

@@ -657,9 +657,9 @@ fn command_in<'a>(
 
 /// Reads the words of the command line, the program's name first.
 ///
-/// Unless memory runs out, `Usage` comes exactly if the words are no command: if clap's definition of the command
-/// line doesn't take them, what it takes names no command with its words, or a word that should be a number is none, or is out of
-/// its range. What comes is in its ranges.
+/// Unless memory runs out, `Usage` comes exactly if the words are no command: clap's definition of the command line doesn't take
+/// them; or what it takes names no command with its words; or a word that should be a number is none, or is out of its range.
+/// What comes is in its ranges.
 pub fn read_words<'a>(alloc: Global, words: &'a [String]) -> Result<CommandWords<'a>, WordsError>
     ensures command { IsCommand result (command_of (map string_bytes words.now)) }
     ensures within { IfOk result AreWithinLimits }

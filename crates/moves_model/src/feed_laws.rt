@@ -87,9 +87,9 @@ pub fn table_alike_law()
         (table_by fewest every hops n held T elem) }
 {}
 
-/// With the fewest changes asked for, an elementary event that changes a chosen hop first makes a shortest list of changes. Just these
-/// events have rows, each with the number of these changes, which are all that the router is told of it if no snapshot is due: no
-/// table that answers as the routes after the event differs from the one before at fewer prefixes.
+/// With the fewest changes asked for, an elementary event that changes a chosen hop first makes a shortest list of changes: no
+/// table that answers as the routes after the event differs from the one before at fewer prefixes. Just these events have rows,
+/// each with the number of these changes. They are all that the router is told of the event if no snapshot is due.
 pub fn shortest_law()
     ensures changes { (hops : List Address) (held : Candidates) (T : Entries) (elem : Elem)
         (p : Prefix) → AllByRecursion IsPrefix (keys_of T) →

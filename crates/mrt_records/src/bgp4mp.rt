@@ -139,10 +139,10 @@ fn push_session(
 }
 
 /// Adds the events of a BGP4MP record of this subtype, or of a BGP4MP_ET record, which has microseconds before it, and returns
-/// whether its message is treated as a withdrawal. `None` is a record that is skipped: its subtype isn't one of `STATE_CHANGE`
-/// (0), `MESSAGE` (1), `MESSAGE_AS4` (4), `STATE_CHANGE_AS4` (5), `MESSAGE_LOCAL` (6), `MESSAGE_AS4_LOCAL` (7), nor one of the
-/// four with path identifiers (8 to 11, RFC 8050, section 3), or its Address Family is neither IPv4 nor IPv6. If it is refused,
-/// or memory runs out, some events may have been added.
+/// whether its message is treated as a withdrawal. `None` is a record that is skipped: its Address Family is neither IPv4 nor
+/// IPv6, or its subtype is another one than `STATE_CHANGE` (0), `MESSAGE` (1), `MESSAGE_AS4` (4), `STATE_CHANGE_AS4` (5),
+/// `MESSAGE_LOCAL` (6), `MESSAGE_AS4_LOCAL` (7) and the four with path identifiers (8 to 11, RFC 8050, section 3). If the record
+/// is refused, or memory runs out, some events may have been added.
 ///
 /// Messages of the LOCAL subtypes, which the recorder sent itself (RFC 6396, sections 4.4.5 and 4.4.6), are read as the others
 /// are: their routes count as routes of the peer that they name.

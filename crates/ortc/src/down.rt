@@ -89,10 +89,10 @@ fn descend<S: EntrySink, C: Counter>(
     Ok(())
 }
 
-/// The least table of a prefix's region under a hop that is inherited from above: of the tables that, under it, give the
-/// region's addresses the answers of the tree's routes, the one that the best hops fix, with the tree's entries as the
-/// old table, in the order of prefixes. It costs the prefix's length, and the nodes within the prefix: what is best for them
-/// they keep.
+/// The least table of a prefix's region under a hop that is inherited from above, in the order of prefixes. Of the tables that
+/// give the region's addresses the answers of the tree's routes under that hop, it is the one that the best hops fix, with the
+/// tree's entries as the old table. It costs the prefix's length, and the nodes within the prefix: what is best for them they
+/// keep.
 ///
 /// # Errors
 ///

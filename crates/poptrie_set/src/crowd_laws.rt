@@ -18,8 +18,8 @@ ghost use Rattle.poptrie_set.specs.Past.{PastIn};
 ghost use Rattle.poptrie_set.specs.Prepares.{asks_of, GaveBack};
 ghost use Rattle.poptrie_set.specs.Crowds.{IsStill, sum};
 
-/// Of a set that shows some entries and has nothing pending: if, once what was retired by a time was given back, a block is
-/// refused that the update to other entries asks for, then its arena has at most 64 places for each that the versions since that
+/// Of a set that shows some entries and has nothing pending. What was retired by a time is given back, and then a block is
+/// refused that the update to other entries asks for. Then its arena has at most 64 places for each that the versions since that
 /// time needed and the new one will need.
 pub fn crowded_law()
     ensures nodes { (s : Seen) (L M : Entries) (ns ls : List ℕ) (since : ℕ) (nodes : Space Node) (leaves : Space ℕ) (e : Full) → IsStill s → ShowsIn s L L → PastIn s ns ls → GaveBack since s nodes leaves → RunsOut nodes.order leaves.order (asks_of s.family s.direct_bits L M) (nodes.free, leaves.free) (refusal.Nodes e) → 2 ^ s.nodes.space.order ≤ 64 * (sum (drop since ns) + node_need s.family s.direct_bits L + node_need s.family s.direct_bits M) }

@@ -53,9 +53,9 @@ pub fn kinds_law()
         → hop_at (kind_hops kind before rows) n ≡ Some a }
 {}
 
-/// The numbers of hops don't matter to a certificate: the printed rows of routes that have hops, of a table, and of a certificate
-/// that proves it least, prove a least table with the numbers that a reader gives the hops. The text of the rows is read as them
-/// if the hops aren't too many. Rows of proper entries are proper.
+/// The numbers of hops don't matter to a certificate. Take the printed rows of routes that have hops, of a table, and of a
+/// certificate that proves it least. They prove a least table with the numbers that a reader gives the hops. The text of the rows
+/// is read as them if the hops aren't too many. Rows of proper entries are proper.
 pub fn printed_law()
     ensures proves { (hops : List Address) (R T : Entries) (C : List CertRow) (between after : List PrintedRow) → IsDistinct same_address hops → HaveHops hops R →
         AllByRecursion IsOther between → AllByRecursion IsOther after → IsCertificate R T C → Proves (used_of (rows_with hops R T C between after)) }
