@@ -128,7 +128,7 @@ impl Flat {
         }
     }
 
-    /// A peer's number, if its slot follows as it did in the row before: a guess that is tested, in place of a look-up.
+    /// A peer's number, if its slot follows as it did in the row before: a guess that is tested, in place of a lookup.
     fn number_near(&self, peer: &Peer) -> Option<u32>
         ensures { IfSome result (IsPeerNumber self.now.peers.keys peer.now) }
     {
@@ -143,7 +143,7 @@ impl Flat {
         Some(number)
     }
 
-    /// A hop's number, if it is that of the peer's last slot: a guess that is tested, in place of a look-up.
+    /// A hop's number, if it is that of the peer's last slot: a guess that is tested, in place of a lookup.
     fn hop_near(&self, peer: u32, hop: &Addr) -> Option<u32>
         ensures { IfSome result (λ n. slice_get self.now.hops.keys n ≡ Some hop.now) }
     {

@@ -1,7 +1,7 @@
 //! The numbers of next hops.
 //!
 //! Hops are numbered 1, 2, .. in the order in which they are first brought, and keep their number for good. They are kept
-//! in a hash set in that order: a hop's number is its place there from 1. Asking costs one look-up, and so does numbering a
+//! in a hash set in that order: a hop's number is its place there from 1. Asking costs one lookup, and so does numbering a
 //! hop that is held; a new one costs two.
 
 ghost use Rattle.std.specs.Prelude.{◌≡◌, ◌↔◌, ◌+◌, ◌<◌, ◌≤◌, [], length, map, option_map, Some, None, IsOk, IsErr, IsSome, IfSome, IfOk, OnOk, OnErr, IsErrOf};

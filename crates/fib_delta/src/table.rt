@@ -1,6 +1,6 @@
 //! The table of a router, which takes changes.
 //!
-//! Its entries stand in a map by prefix: a change costs one look-up, an addition two.
+//! Its entries stand in a map by prefix: a change costs one lookup, an addition two.
 
 ghost use Rattle.std.specs.Prelude.{◌≡◌, ◌↔◌, [], map, true, IfOk, OnOk, OnErr, IsOk, Some, IsErrOf};
 ghost use Rattle.std.specs.Map.{remove_entry};

@@ -192,7 +192,7 @@ pub fn run_fib<I: Inputs, O: Sink, E: Sink>(
         (O.written out.new) result }
 
     // A run in steps: at Done out has the rows of a run of the machine of steps over the whole script, from the routes after the
-    // load. A look-up's answer is the longest match among the routes after exactly the events that were published to its address
+    // load. A lookup's answer is the longest match among the routes after exactly the events that were published to its address
     // at its first read. Too many hops and too small tries end it at the prepare of that event.
     ensures steps { FitsSteps (I.content inputs.old) (asked_by words.now) (O.written out.old)
         (O.written out.new) result }

@@ -14,7 +14,7 @@ use Rattle.fib_report.specs.declared.run.Invalid as code_invalid
 use Rattle.fib_report.specs.declared.run.Moves as code_moves
 use Rattle.fib_report.specs.declared.run.Run as code_run
 
--- an address that was asked for, the number of its hop, and how many nodes its look-up visits
+-- an address that was asked for, the number of its hop, and how many nodes its lookup visits
 pub record Answer : Type 0 where
   pub addr : Address
   pub hop : ℕ

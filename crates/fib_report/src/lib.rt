@@ -1,6 +1,6 @@
 //! The report of a run as rows of text.
 //!
-//! A run is a few lists, routes, Invalid announcements, changes with their events' numbers, how many each event needed, answers to look-ups, a table, a least table and its
+//! A run is a few lists, routes, Invalid announcements, changes with their events' numbers, how many each event needed, answers to lookups, a table, a least table and its
 //! certificate, and a few counts. Each item is a row, its fields joined by commas and ended by a line feed; the format is our
 //! own, and stands in `rows`. Contracts see the run as the model's lists, and its text as the text of the model's printed rows,
 //! which a checker reads again.

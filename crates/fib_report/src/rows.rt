@@ -189,7 +189,7 @@ pub(crate) fn put_moves_row<W: Write + Drop>(
     put_moves(out, moves.event, moves.count)
 }
 
-/// Writes the hop of an address, and then how many nodes its look-up visits.
+/// Writes the hop of an address, and then how many nodes its lookup visits.
 fn put_lookup<W: Write + Drop>(
     out: &mut Writer<W>,
     answer: &Answer,

@@ -63,7 +63,7 @@ pub struct Answer {
     pub addr: Addr,
     /// Its hop's number, `Hop::NONE` if no hop was found.
     pub hop: Hop,
-    /// How many nodes its look-up visits.
+    /// How many nodes its lookup visits.
     pub visits: u8,
 }
 

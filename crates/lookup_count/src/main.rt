@@ -1,9 +1,9 @@
-//! Look-ups by the Poptries of a dump's routes: the look-up by itself, to be measured.
+//! Lookups by the Poptries of a dump's routes: the lookup by itself, to be measured.
 //!
 //! `lookup_count FILE FAMILY COUNT APART CHAINED DIRECT` loads a dump, and builds the tries of its routes with DIRECT direct
 //! bits. It draws COUNT addresses within its routes of IPv4 (4) or IPv6 (6), and looks each of them up APART times by itself and
 //! CHAINED times changed by the answer before it. It prints how many places the tries need, and of each way how many nodes the
-//! look-ups visited and the sum of the numbers of their hops. What a round takes is the difference of two runs.
+//! lookups visited and the sum of the numbers of their hops. What a round takes is the difference of two runs.
 #![tactic(auto)]
 
 mod draw;

@@ -23,7 +23,7 @@ demands_as items = fold (λ st i. demand_as i ∷ st) [] items
 abbrev pub SameDemand : ModelDemand → ModelDemand → Type 0
 SameDemand i j = (i.prefix ≡ j.prefix) × SameAllowed i.hops j.hops × (i.k ≡ j.k)
 
--- the runs are those of the routes R, and look-ups among the old entries say what they would of T
+-- the runs are those of the routes R, and lookups among the old entries say what they would of T
 pub record IsAsked (a : Against) (R T : Entries) : Type 0 where
   pub runs : RunsTell a.family R a.runs.now
   pub hops : (p : Prefix) → old_at (map entry_as a.old.now) p ≡ old_at T p

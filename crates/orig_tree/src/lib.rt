@@ -1,7 +1,7 @@
 //! The routes and the table's entries of one family, in a binary tree: each node is a prefix, with the hop of its route and
 //! of its entry.
 //!
-//! A look-up, a change, the making of room and the question whether a whole prefix gets one hop walk down the prefix's bits,
+//! A lookup, a change, the making of room and the question whether a whole prefix gets one hop walk down the prefix's bits,
 //! 129 nodes at most, the root among them; many routes or entries are set in one walk, if they stand in the order of
 //! prefixes. Contracts see two lists of entries in the order of prefixes. All nodes
 //! of a tree lie in one array, each at a place of its own, which its parent links to; a node takes 24 octets, and the place of

@@ -1,4 +1,4 @@
-//! The bits of an address in a number of its family's width, of which a look-up takes the first ones, and then six at a time.
+//! The bits of an address in a number of its family's width, of which a lookup takes the first ones, and then six at a time.
 
 ghost use Rattle.std.specs.Prelude.{◌≡◌, ℕ, ◌-◌, ◌*◌, ◌/◌, ◌%◌, ◌^◌, ◌<◌};
 ghost use Rattle.poptrie_build.specs.Keys.{widened, widened_fits};

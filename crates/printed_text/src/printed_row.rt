@@ -44,9 +44,9 @@ pub enum Count {
     Routes,
     /// The entries of the kept table.
     Entries,
-    /// The nodes that look-ups need.
+    /// The nodes that lookups need.
     Nodes,
-    /// The leaves that look-ups need.
+    /// The leaves that lookups need.
     Leaves,
     /// The messages that were treated as withdrawals (RFC 7606, section 2).
     Treated,
@@ -69,7 +69,7 @@ pub enum PrintedRow {
     Moves(u64, u64),
     /// The hop of an address.
     Answer(Addr, Option<Addr>),
-    /// How many nodes the look-up of an address visits.
+    /// How many nodes the lookup of an address visits.
     Visits(Addr, u64),
     /// An entry of the kept table.
     Table(Prefix, Option<Addr>),
@@ -131,7 +131,7 @@ fn answer_in(fields: Fields<'_>) -> Result<PrintedRow, u8>
     Ok(PrintedRow::Answer(addr, hop))
 }
 
-/// The visits of a look-up.
+/// The visits of a lookup.
 #[tactic(auto, unfolding(crate::specs::Reading::visits_in))]
 fn visits_in(fields: Fields<'_>) -> Result<PrintedRow, u8>
     ensures { Gives printed_row_as result (visits_in fields.entry) }

@@ -1,4 +1,4 @@
--- What a run in steps may do: look-ups that pause between their reads, beside events whose stores are made one by one. It is defined over lists of
+-- What a run in steps may do: lookups that pause between their reads, beside events whose stores are made one by one. It is defined over lists of
 -- routes alone. A run is a list of rows that the machine allows, step by step.
 use Rattle.std.specs.Prelude.{◌≡◌, ◌≢◌, ◌↔◌, ◌⊎◌, ℕ, zero, suc, ◌+◌, ◌*◌, ◌^◌, ◌<◌, ◌≤◌, List, [], ◌∷◌, ◌++◌, Bool, true, false, ◌&&◌, cond, nat_eq, nat_lt, length, take, Option, Some, None}
 use Rattle.std.specs.List.{list_any}
@@ -37,7 +37,7 @@ pub record Begun : Type 0 where
   pub stores : Stores
   pub made : ℕ
 
--- An open look-up: its address, how many events had ended when it was opened, and how often it went on. The version in which it goes on is
+-- An open lookup: its address, how many events had ended when it was opened, and how often it went on. The version in which it goes on is
 -- the number of events after which routes have its answer, from its first go on.
 pub record Lookup : Type 0 where
   pub addr : Address
@@ -45,7 +45,7 @@ pub record Lookup : Type 0 where
   pub gone : ℕ
   pub version : Option ℕ
 
--- how many events have ended, the one that is begun, and the open look-ups of each family by number
+-- how many events have ended, the one that is begun, and the open lookups of each family by number
 pub record State : Type 0 where
   pub ended : ℕ
   pub begun : Option Begun
@@ -55,7 +55,7 @@ pub record State : Type 0 where
 abbrev pub at_first : State
 at_first = record { ended = 0; begun = None; lookups = λ f n. None }
 
--- the look-ups with this one of a number, or without it
+-- the lookups with this one of a number, or without it
 abbrev pub with_lookup : Family → ℕ → Option Lookup → (Family → ℕ → Option Lookup) → Family → ℕ → Option Lookup
 with_lookup f n k lookups g m = cond (same_family f g && nat_eq n m) k (lookups g m)
 
@@ -109,7 +109,7 @@ is_stored w s (Some b) a = changes_family a.family (w.changed s.ended) && covers
 abbrev pub published : World → State → Address → ℕ
 published w s a = cond (is_stored w s s.begun a) (suc s.ended) s.ended
 
--- the version of a look-up at its next go: the one published then, at its first
+-- the version of a lookup at its next go: the one published then, at its first
 abbrev pub version_at : World → State → Lookup → Option ℕ → ℕ
 version_at w s k None = published w s k.addr
 version_at w s k (Some m) = m
@@ -142,7 +142,7 @@ abbrev pub HasRoomNext : World → ℕ → Option Prefix → Type 0
 HasRoomNext w n None = Unit {0}
 HasRoomNext w n (Some p) = HasRoom w p.family (suc n)
 
--- the look-up of this number may hold what the next event, of its family, would need: no other of the family is before it, by the changes
+-- the lookup of this number may hold what the next event, of its family, would need: no other of the family is before it, by the changes
 -- that had ended when it was opened and then by number; at least one has ended since; the needs after the event fit; and an arena is crowded
 pub record MayPin (w : World) (s : State) (f : Family) (n : ℕ) (k : Lookup) : Type 0 where
   pub held : s.lookups f n ≡ Some k
@@ -222,7 +222,7 @@ Takes w s stores row t = StoresOne s s.begun row t
 Takes w s ends row t = EndsEvent s s.begun row t
 Takes w s cancels row t = Cancels s s.begun row t
 
--- a look-up after a step: it was closed, or has the same address, start and, if it had one, version
+-- a lookup after a step: it was closed, or has the same address, start and, if it had one, version
 abbrev pub SameVersion : Option ℕ → Option ℕ → Type 0
 SameVersion None now = Unit {0}
 SameVersion (Some m) now = now ≡ Some m
