@@ -1,9 +1,9 @@
 //! How crowded an arena is if a block that an update asks for is refused.
 //!
 //! No free block is then as large as the one that is asked for, which is of 64 places at most: so of each 64 places one is out at least.
-//! What is out is the present version's blocks, those that the update took, and those that are retired and held by a lookup that started
-//! before; and each of these is bounded by what a version needs. So the arena has at most 64 places for each that the versions since that
-//! lookup's start needed, and the one after the update will need.
+//! What is out is the present version's blocks, those that the update took, and those that are retired and held by a lookup that
+//! started before; and each of these is bounded by what a version needs. So the arena has at most 64 places for each that the
+//! versions since that lookup's start needed, and the one after the update will need.
 
 ghost use Rattle.std.specs.Prelude.{◌≡◌, ◌≤◌, ◌+◌, ◌*◌, ◌^◌, ℕ, List, [], drop};
 ghost use Rattle.table_model.specs.Entries.{Entries};

@@ -15,8 +15,8 @@ pub fn number_law()
     ensures one { (c n m : ℕ) (f g : Family) → Names c f n → Names c g m → (f ≡ g) × (n ≡ m) }
 {}
 
-/// Whatever the step, an open lookup keeps its address and its start, and once it went on its version; or it has its answer, and is
-/// closed.
+/// Whatever the step, an open lookup keeps its address and its start, and once it went on its version; or it has its answer, and
+/// is closed.
 pub fn version_law()
     ensures { (w : World) (s t : State) (step : Step) (row : StepRow) (f : Family) (n : ℕ) (k : Lookup) → Takes w s step row t → s.lookups f n ≡ Some k → StaysOrEnds k (t.lookups f n) }
 {}
