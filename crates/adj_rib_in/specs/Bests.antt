@@ -54,7 +54,7 @@ abbrev pub better_one : Candidate → Option Candidate → Candidate
 better_one c None = c
 better_one c (Some d) = if comes_before c d then c else d
 
--- the better of what comes from a path source and another candidate, where the path source isn't left out
+-- the better of what comes from a path source and another candidate, if the path source isn't left out
 abbrev pub better_on : Option Via → Option Via → Option PathAttrs → Option Candidate → Option Candidate
 better_on but None o best = best
 better_on but (Some q) None best = best

@@ -186,7 +186,7 @@ pub record IsLastFree (b : Flat) (q i : ℕ) : Type 0 where
   pub free : slot.hop ≡ no_hop
   pub last : chain_end b.ends.items q ≡ suc i
 
--- a slot that may come behind all others
+-- a slot that may come after all others
 pub record IsNextSlot (b : Flat) (s : PathSlot) : Type 0 where
   pub row : Row
   pub there : slice_get b.rows.items s.row ≡ Some row

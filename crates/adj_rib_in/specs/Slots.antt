@@ -1,4 +1,4 @@
--- Rows with their slots: a slot's place tells its row.
+-- Rows with their slots: a slot's place implies its row.
 use Rattle.std.specs.Prelude.{◌≡◌, ◌-◌, ◌≤◌, ◌<◌, ◌^◌, nat_lt, ℕ, suc, List, [], ◌∷◌, Some, length, slice_get, if◌then◌else◌}
 use Rattle.adj_rib_in.specs.declared.rows.Row.{Row}
 use Rattle.adj_rib_in.specs.declared.slot.PathSlot.{PathSlot}
@@ -15,7 +15,7 @@ rowless s = record { path = s.path; peer = s.peer; id = s.id; hop = s.hop; link 
 abbrev pub in_row : ℕ → RunSlot → PathSlot
 in_row r s = record { path = s.path; peer = s.peer; id = s.id; hop = s.hop; row = r; link = s.link }
 
--- how many rows in front begin at the place or before it
+-- how many rows at the head begin at the place or before it
 unfoldable pub begun : List Row → ℕ → ℕ
 begun [] i = 0
 begun (r ∷ rows) i = if nat_lt i r.off then 0 else suc (begun rows i)
@@ -29,7 +29,7 @@ unfoldable pub placed_from : List Row → ℕ → List RunSlot → List PathSlot
 placed_from rows i [] = []
 placed_from rows i (s ∷ slots) = in_row (row_at rows i) s ∷ placed_from rows (suc i) slots
 
--- no row begins before the one in front of it
+-- no row begins before the one before it
 abbrev pub AreRising : List Row → Type 0
 AreRising rows = (i j : ℕ) (r t : Row) → i < j → slice_get rows i ≡ Some r → slice_get rows j ≡ Some t → r.off ≤ t.off
 

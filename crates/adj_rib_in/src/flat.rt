@@ -65,7 +65,7 @@ impl Flat {
         }
     }
 
-    /// How the last row stands to a prefix; `Less` where there is none.
+    /// How the last row stands to a prefix; `Less` if there is none.
     fn order_last(&self, prefix: &Prefix) -> Ordering
         requires { IsFlat self.now }
         ensures less { result ≡ Less → IsBehind self.now.rows.items prefix.now }
@@ -128,7 +128,7 @@ impl Flat {
         }
     }
 
-    /// A peer's number, where its slot follows as it did in the row before: a guess that is tested, in place of a look-up.
+    /// A peer's number, if its slot follows as it did in the row before: a guess that is tested, in place of a lookup.
     fn number_near(&self, peer: &Peer) -> Option<u32>
         ensures { IfSome result (IsPeerNumber self.now.peers.keys peer.now) }
     {
@@ -143,7 +143,7 @@ impl Flat {
         Some(number)
     }
 
-    /// A hop's number, where it is that of the peer's last slot: a guess that is tested, in place of a look-up.
+    /// A hop's number, if it is that of the peer's last slot: a guess that is tested, in place of a lookup.
     fn hop_near(&self, peer: u32, hop: &Addr) -> Option<u32>
         ensures { IfSome result (λ n. slice_get self.now.hops.keys n ≡ Some hop.now) }
     {
@@ -302,7 +302,7 @@ impl Flat {
         self.rows.set(at, path, hop);
     }
 
-    /// Begins the row of a prefix behind all others.
+    /// Begins the row of a prefix after all others.
     fn push_row(&mut self, prefix: &Prefix) -> Result<u32, AllocError>
         requires flat { IsFlat self.old }
         requires behind { IsBehind self.old.rows.items prefix.now }
@@ -322,7 +322,7 @@ impl Flat {
         Ok(row)
     }
 
-    /// Puts a slot behind all others.
+    /// Puts a slot after all others.
     fn push_slot(&mut self, slot: PathSlot) -> Result<(), AllocError>
         requires flat { IsFlat self.old }
         requires next { IsNextSlot self.old slot }
@@ -349,7 +349,7 @@ impl Flat {
         }
     }
 
-    /// Puts a route behind all others, in the last row, by the numbers of its row and its peer.
+    /// Puts a route after all others, in the last row, by the numbers of its row and its peer.
     fn push_route(
         &mut self,
         row: u32,
@@ -380,7 +380,7 @@ impl Flat {
         Ok(())
     }
 
-    /// The last row's number, where it is this prefix's and its run isn't long, or that of a new row behind it.
+    /// The last row's number, if it is this prefix's and its run isn't long, or that of a new row after it.
     fn row_behind(&mut self, prefix: &Prefix) -> Result<Option<u32>, AllocError>
         requires flat { IsFlat self.old }
         requires numbers { HasNumbers self.old }
@@ -398,7 +398,7 @@ impl Flat {
         }
     }
 
-    /// The last row's number, where its run isn't long.
+    /// The last row's number, if its run isn't long.
     fn open_row(&self, prefix: &Prefix) -> Option<u32>
         requires { IsLastRow self.now.rows.items prefix.now (length self.now.rows.items - 1) }
         ensures { IfSome result (IsLastRow self.now.rows.items prefix.now) }
@@ -421,13 +421,13 @@ impl Flat {
             && self.hops.len() < NO_HOP as usize
     }
 
-    /// Puts a route behind all others, if its place is there, its path source has no slot for the prefix yet, and numbers are left; and
-    /// tells whether it did. A dump's routes come so, one after the other: it compares the last row's prefix once, and neither
-    /// makes a path key nor searches.
+    /// Puts a route after all others, if its place is there, its path source has no slot for the prefix yet, and numbers are
+    /// left; and returns whether it did. A dump's routes come so, one after the other: it compares the last row's prefix once,
+    /// and neither makes a path key nor searches.
     ///
     /// # Errors
     ///
-    /// No memory; then nothing is offered that wasn't before.
+    /// Out of memory; then nothing is offered that wasn't before.
     pub fn put_behind(
         &mut self,
         via: &Via,
@@ -455,7 +455,7 @@ impl Flat {
         }
     }
 
-    /// Puts a route behind all others, in the last row, if its path source has no slot there yet; and tells whether it did.
+    /// Puts a route after all others, in the last row, if its path source has no slot there yet; and returns whether it did.
     fn put_last(&mut self, row: u32, via: &Via, path: u32, hop: &Addr) -> Result<bool, AllocError>
         requires flat { IsFlat self.old }
         requires row { (p : Prefix) × IsLastRow self.old.rows.items p row }
@@ -531,8 +531,8 @@ impl Flat {
         Some(at)
     }
 
-    /// Drops a peer's last slot where nothing is offered there, and tells whether it did: the slot is no path key any more, and the
-    /// peer's chain begins with the slot before it.
+    /// Drops a peer's last slot if nothing is offered there, and returns whether it did: the slot is no path key any more, and
+    /// the peer's chain begins with the slot before it.
     fn drop_last(&mut self, peer: u32) -> bool
         requires { IsFlat self.old }
         ensures flat { IsFlat self.new }
@@ -669,8 +669,8 @@ impl Flat {
         }
     }
 
-    /// The better of a slot and another one where something is offered: the other one, where the slot is of the path source that is left
-    /// out or offers nothing.
+    /// The better of a slot and another one where something is offered: the other one, if the slot is of the path source that is
+    /// left out or offers nothing.
     fn better_slot(
         &self,
         slot: &PathSlot,
@@ -758,7 +758,7 @@ impl Flat {
         })
     }
 
-    /// The better of what a slot offers and another candidate: the other one, where the slot is of the path source that is left out.
+    /// The better of what a slot offers and another candidate: the other one, if the slot is of the path source that is left out.
     fn better(
         &self,
         slot: &PathSlot,
@@ -808,7 +808,7 @@ impl Flat {
     ///
     /// # Errors
     ///
-    /// No memory.
+    /// Out of memory.
     pub fn add_paths_of(&self, peer: &Peer, paths: &mut BTreeSet<PathKey>) -> Result<(), AllocError>
         requires { IsFlat self.now }
         ensures { OnOk result ((s : PathKey) → is_among paths.new.keys s
@@ -856,12 +856,12 @@ impl Flat {
         self.row_of(prefix)
     }
 
-    /// Adds what is offered for a prefix, by path source. Where prefixes come in order, the row that one call gives is `near` in the next one,
-    /// which hardly searches then.
+    /// Adds what is offered for a prefix, by path source. If prefixes come in order, the row that one call returns is `near`
+    /// in the next one, which hardly searches then.
     ///
     /// # Errors
     ///
-    /// No memory.
+    /// Out of memory.
     pub fn add_ways(
         &self,
         near: usize,

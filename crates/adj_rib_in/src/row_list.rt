@@ -93,7 +93,7 @@ impl RowList {
         }
     }
 
-    /// Where the run of the row behind a place begins, or an end if there is none.
+    /// Where the run of the row after a place begins, or an end if there is none.
     pub fn off_behind(&self, at: usize, end: usize) -> usize
         ensures { result ≡ off_or end (slice_get self.now.items (suc at)) }
     {
@@ -123,7 +123,7 @@ impl RowList {
         }
     }
 
-    /// Puts a row behind all others.
+    /// Puts a row after all others.
     pub fn push(&mut self, row: Row) -> Result<(), AllocError>
         ensures ok { OnOk result (self.new.items ≡ self.old.items ++ row ∷ []) }
         ensures err { OnErr result (self.new.items ≡ self.old.items) }
@@ -157,7 +157,7 @@ impl RowList {
         }
     }
 
-    /// How many rows in front have runs that begin at a place or before it.
+    /// How many rows at the head have runs that begin at a place or before it.
     pub fn begun(&self, at: usize) -> usize
         requires { AreRising self.now.items }
         ensures { result ≡ begun_at self.now.items at }

@@ -64,7 +64,7 @@ impl RowTable {
         self.rows.off_at(at, end)
     }
 
-    /// Where the run of the row behind a place begins, or an end if there is none.
+    /// Where the run of the row after a place begins, or an end if there is none.
     pub fn off_behind(&self, at: usize, end: usize) -> usize
         ensures { result ≡ off_or end (slice_get self.now.items (suc at)) }
     {
@@ -93,7 +93,7 @@ impl RowTable {
         self.rows.find(prefix)
     }
 
-    /// Puts a row behind all others. Its run begins behind all slots.
+    /// Puts a row after all others. Its run begins after all slots.
     pub fn push(&mut self, row: Row) -> Result<(), AllocError>
         requires off { row.off ≡ length self.old.slots }
         requires few { length self.old.items < 2 ^ 32 - 1 }
@@ -104,7 +104,7 @@ impl RowTable {
         self.rows.push(row)
     }
 
-    /// Puts a slot of the last row behind all others.
+    /// Puts a slot of the last row after all others.
     pub fn push_slot(&mut self, slot: &PathSlot) -> Result<(), AllocError>
         requires { suc slot.now.row ≡ length self.old.items }
         ensures ok { OnOk result (self.new.slots ≡ self.old.slots ++ slot.now ∷ []) }

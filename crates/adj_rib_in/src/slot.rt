@@ -11,11 +11,11 @@ pub const NO_PEER: u32 = u32::MAX;
 pub struct PathSlot {
     /// The length of the path.
     pub path: u32,
-    /// The peer's number, or none where the slot is no path key any more.
+    /// The peer's number, or none if the slot is no path key any more.
     pub peer: u32,
     /// The path identifier.
     pub id: u32,
-    /// The hop's number, or none where nothing is offered.
+    /// The hop's number, or none if nothing is offered.
     pub hop: u32,
     /// The row's number.
     pub row: u32,
@@ -23,16 +23,16 @@ pub struct PathSlot {
     pub link: u32,
 }
 
-/// A slot as it lies in its row's run, in 20 octets: its place tells its row.
+/// A slot as it lies in its row's run, in 20 octets: its place implies its row.
 #[derive(Clone, Copy)]
 pub struct RunSlot {
     /// The length of the path.
     pub path: u32,
-    /// The peer's number, or none where the slot is no path key any more.
+    /// The peer's number, or none if the slot is no path key any more.
     pub peer: u32,
     /// The path identifier.
     pub id: u32,
-    /// The hop's number, or none where nothing is offered.
+    /// The hop's number, or none if nothing is offered.
     pub hop: u32,
     /// Where the peer's chain goes on: 1 more than the place of the peer's slot before this one, or 0.
     pub link: u32,

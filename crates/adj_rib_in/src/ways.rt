@@ -77,7 +77,7 @@ impl ViaAttrs {
     ///
     /// # Errors
     ///
-    /// No memory.
+    /// Out of memory.
     pub fn put(&mut self, via: Via, attrs: PathAttrs) -> Result<(), AllocError>
         ensures { OnOk result ((v : code.Via) → way_attrs self.new v
             ≡ way_put (Some via) (Some attrs) v (way_attrs self.old v)) }

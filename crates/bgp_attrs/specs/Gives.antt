@@ -29,12 +29,12 @@ rule_of cut TooLong = PrefixLength
 abbrev pub nlri_as : code_nlri.Nlri → Nlri
 nlri_as n = record { prefix = prefix_as n.prefix; id = n.id }
 
--- a prefix and how many octets it takes, where a cut breaks this rule
+-- a prefix and how many octets it takes; a cut breaks this rule
 abbrev pub GivesPrefix : Rule → List ℕ → Result (code.Prefix × ℕ) WireFault → Result (Prefix × List ℕ) Rule → Type 0
 GivesPrefix cut octets (Ok x) read = read ≡ Ok (prefix_as x.0, drop x.1 octets)
 GivesPrefix cut octets (Err fault) read = read ≡ Err (rule_of cut fault)
 
--- an identifier, a prefix and how many octets both take, where a cut breaks this rule
+-- an identifier, a prefix and how many octets both take; a cut breaks this rule
 abbrev pub GivesNlri : Rule → List ℕ → Result (ℕ × code.Prefix × ℕ) WireFault → Result (Nlri × List ℕ) Rule → Type 0
 GivesNlri cut octets (Ok (id, prefix, taken)) read = read ≡ Ok (record { prefix = prefix_as prefix; id = id }, drop taken octets)
 GivesNlri cut octets (Err fault) read = read ≡ Err (rule_of cut fault)

@@ -29,14 +29,14 @@ nlri_in ids family octets = result_unwrap_or (nlris AttributeValue ids family oc
 abbrev pub ipv4_as : ℕ → Address
 ipv4_as bits = record { family = V4; bits = bits_of 32 bits }
 
--- a next hop, or none where NEXT_HOP isn't of its form
+-- a next hop, or none if NEXT_HOP isn't of its form
 abbrev pub judged_as : Option ℕ → Option Address
 judged_as hop = option_map ipv4_as hop
 
 abbrev pub path_as : code_path.Path → Path
 path_as p = record { length = p.length; origin = p.origin }
 
--- a path, or none where AS_PATH isn't of its form
+-- a path, or none if AS_PATH isn't of its form
 abbrev pub judged_path : Option code_path.Path → Option Path
 judged_path path = option_map path_as path
 
@@ -52,7 +52,7 @@ found_as f = record { path = option_map judged_path f.path; hop = option_map jud
 abbrev pub listed_as : Attrs → Listed
 listed_as a = record { path = record { length = a.path; origin = a.origin }; hop = option_map addr_as a.hop; reach = option_map reached a.reach; unreach = option_map unreached a.unreach; bad = a.bad }
 
--- the next hop in these octets, or none where there are none
+-- the next hop in these octets, or none if there are none
 abbrev pub hop_as : code_hop.HopOctets → Option Address
 hop_as h = if length h.octets.now == 0 then None else Some (hop_of h.octets.now)
 

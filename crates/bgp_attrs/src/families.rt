@@ -12,7 +12,7 @@ use wire_model::Rule;
 /// The SAFI of unicast (RFC 4760, section 6).
 const UNICAST: u8 = 1;
 
-/// The family of an AFI (RFC 4760, section 3), where it is IPv4 or IPv6.
+/// The family of an AFI (RFC 4760, section 3), if it is IPv4 or IPv6.
 pub fn family_of(afi: u16) -> Option<Family>
     ensures { result ≡ model.family_of afi }
 {
@@ -23,7 +23,7 @@ pub fn family_of(afi: u16) -> Option<Family>
     }
 }
 
-/// The family that AFI and SAFI name, `None` where the AFI is unknown or the SAFI isn't unicast; and what follows them.
+/// The family that AFI and SAFI name, `None` if the AFI is unknown or the SAFI isn't unicast; and what follows them.
 ///
 /// A cut breaks `AttributeValue`.
 #[tactic(auto, unfolding(wire_model::specs::Wire::family_at))]

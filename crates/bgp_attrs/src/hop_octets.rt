@@ -7,7 +7,7 @@ ghost use Rattle.wire_model.specs.Attribute.{is_hop_length};
 use crate::hops::next_hop;
 use fib_addr::Addr;
 
-/// The octets of a next hop, where they lie; none where there is no next hop.
+/// The octets of a next hop, where they lie; none if there is no next hop.
 #[derive(Clone, Copy, Debug)]
 pub struct HopOctets<'a> {
     octets: &'a [u8],
@@ -46,7 +46,7 @@ impl<'a> HopOctets<'a> {
         self.octets.is_empty()
     }
 
-    /// This next hop, or the other where there is none.
+    /// This next hop, or the other if there is none.
     #[inline(always)]
     pub fn or(self, other: HopOctets<'a>) -> HopOctets<'a>
         ensures { hop_as result ≡ option_or (hop_as self.entry) (hop_as other.entry) }

@@ -26,7 +26,7 @@ pub fn next_hop(octets: &[u8]) -> Addr
     }
 }
 
-/// Whether a next hop for this family may have so many octets (RFC 4271, section 5.1.3; RFC 2545, section 3; RFC 8950,
+/// Whether a next hop for this family may have `len` octets (RFC 4271, section 5.1.3; RFC 2545, section 3; RFC 8950,
 /// section 3).
 #[inline(always)]
 fn is_next_hop(family: Family, len: u8) -> bool
@@ -38,7 +38,7 @@ fn is_next_hop(family: Family, len: u8) -> bool
     }
 }
 
-/// The octets of the next hop behind its length, and what follows them.
+/// The octets of the next hop after its length, and what follows them.
 #[tactic(auto, unfolding(wire_model::specs::Attribute::next_hop_at))]
 #[inline(always)]
 fn hop_octets_of(family: Family, bytes: &[u8]) -> Result<(&[u8], &[u8]), Rule>
@@ -52,7 +52,7 @@ fn hop_octets_of(family: Family, bytes: &[u8]) -> Result<(&[u8], &[u8]), Rule>
     octets(Rule::AttributeValue, usize::from(len), rest)
 }
 
-/// The next hop behind its length, and what follows it.
+/// The next hop after its length, and what follows it.
 #[inline(always)]
 pub fn next_hop_of(family: Family, bytes: &[u8]) -> Result<(Addr, &[u8]), Rule>
     ensures { Gives (λ x. (addr_as x.0, x.1.now)) result (next_hop_at family bytes.now) }
@@ -61,7 +61,7 @@ pub fn next_hop_of(family: Family, bytes: &[u8]) -> Result<(Addr, &[u8]), Rule>
     Ok((next_hop(hop), rest))
 }
 
-/// The octets of the next hop behind AFI and SAFI, which have to name this family, and what follows them.
+/// The octets of the next hop after AFI and SAFI, which have to name this family, and what follows them.
 #[tactic(auto, unfolding(wire_model::specs::Attribute::full_hop))]
 fn hop_octets_in_full(wanted: Family, value: &[u8]) -> Result<(&[u8], &[u8]), Rule>
     ensures value { Gives (λ x. (hop_of x.0.now, x.1.now)) result (full_hop wanted value.now) }
@@ -89,7 +89,7 @@ fn hop_octets_in_rib(family: Family, value: &[u8]) -> Result<(&[u8], &[u8]), Rul
     }
 }
 
-/// The next hop in the MP_REACH_NLRI of a RIB entry; none where it can't be read.
+/// The next hop in the MP_REACH_NLRI of a RIB entry; none if it can't be read.
 pub fn next_hop_in_rib(family: Family, value: &[u8]) -> HopOctets<'_>
     ensures { hop_as result ≡ hop_read (rib_hop family value.now) }
 {

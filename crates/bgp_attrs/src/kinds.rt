@@ -23,7 +23,7 @@ pub const MP_UNREACH_NLRI: u8 = 15;
 /// The flag of an attribute whose length has two octets.
 const EXTENDED_LENGTH: u8 = 0x10;
 
-/// The length of a value, in two octets where the flags say so.
+/// The length of a value, in two octets if the flags say so.
 #[inline(always)]
 pub fn value_len(flags: u8, bytes: &[u8]) -> Result<(u16, &[u8]), Rule>
     ensures value { Gives (λ x. (x.0, x.1.now)) result (number_at AttributeCut

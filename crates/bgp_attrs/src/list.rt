@@ -20,24 +20,24 @@ use wire_model::Place;
 /// What an attribute list gives.
 #[derive(Clone, Copy, Debug)]
 pub struct Attrs<'a> {
-    /// How long the path is; 0 without an AS_PATH, and where the list is bad.
+    /// How long the path is; 0 without an AS_PATH, and if the list is bad.
     pub path: u32,
-    /// The AS in which the route originates (RFC 6811, section 2); None without an AS_PATH, where it doesn't tell the origin, and
-    /// where the list is bad.
+    /// The AS in which the route originates (RFC 6811, section 2); None without an AS_PATH, if it doesn't give the origin, and
+    /// if the list is bad.
     pub origin: Option<u32>,
-    /// NEXT_HOP; None where the list is bad.
+    /// NEXT_HOP; None if the list is bad.
     pub hop: Option<Addr>,
-    /// MP_REACH_NLRI. None where it is missing or of a family that isn't read; in a RIB entry also where it can't be read
+    /// MP_REACH_NLRI. None if it is missing or of a family that isn't read; in a RIB entry also if it can't be read
     /// or isn't of the record's family.
     pub reach: Option<Reach<'a>>,
-    /// MP_UNREACH_NLRI. None where it is missing or of a family that isn't read, and in a RIB entry.
+    /// MP_UNREACH_NLRI. None if it is missing or of a family that isn't read, and in a RIB entry.
     pub unreach: Option<Unreach<'a>>,
     /// Whether, in an UPDATE, the first AS_PATH or the first NEXT_HOP isn't of its form, so that the message is treated as a withdrawal
     /// (RFC 7606, sections 7.2 and 7.3).
     pub bad: bool,
 }
 
-/// What stood in the list so far; of AS_PATH and NEXT_HOP the value, or none where it isn't of its form.
+/// What stood in the list so far; of AS_PATH and NEXT_HOP the value, or none if it isn't of its form.
 #[derive(Clone, Copy)]
 struct Found<'a> {
     reach: Option<Reach<'a>>,
@@ -64,7 +64,7 @@ fn nothing<'a>() -> Found<'a>
     }
 }
 
-/// A value, or none where it isn't of its form in an UPDATE; in a RIB entry the rule that it breaks.
+/// A value, or none if it isn't of its form in an UPDATE; in a RIB entry the rule that it breaks.
 #[inline(always)]
 fn judge<A: Drop>(place: Place, read: Result<A, Rule>) -> Result<Option<A>, Rule>
     ensures { result ≡ judged place read }
@@ -179,7 +179,7 @@ fn take_value<'a>(
     }
 }
 
-/// Takes the attribute at the front, and gives what follows it.
+/// Takes the first attribute, and returns what follows it.
 #[tactic(auto, unfolding(wire_model::specs::Attribute::attribute_at))]
 #[inline(always)]
 fn take_attribute<'a>(

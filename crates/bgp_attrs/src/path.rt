@@ -23,7 +23,7 @@ const AS_CONFED_SET: u8 = 4;
 pub struct Path {
     /// How long the path is.
     pub length: u32,
-    /// The AS in which the route originates; None where the path doesn't tell it.
+    /// The AS in which the route originates; None if the path doesn't give it.
     pub origin: Option<u32>,
 }
 
@@ -52,7 +52,7 @@ fn weight_of(kind: u8, count: u8) -> u32
     }
 }
 
-/// The origin where this segment is the path's last (RFC 6811, section 2): the last AS number of a sequence.
+/// The origin if this segment is the path's last (RFC 6811, section 2): the last AS number of a sequence.
 #[inline(always)]
 fn origin_of(kind: u8, count: u8, numbers: &[u8], wide: bool) -> Option<u32>
     requires { length numbers.now ≡ count * as_size wide }
@@ -94,7 +94,7 @@ fn segment(so_far: Path, bytes: &[u8], wide: bool) -> Result<(Path, &[u8]), Rule
     Ok((path, rest))
 }
 
-/// What an AS_PATH's value says, whose AS numbers have four octets where it is wide and else two. A wrong segment breaks
+/// What an AS_PATH's value says, whose AS numbers have four octets if it is wide and else two. A wrong segment breaks
 /// `AttributeValue`.
 ///
 /// The octets are fewer than 2^32, so that the length fits.
@@ -111,7 +111,7 @@ pub fn read_path(bytes: &[u8], wide: bool) -> Result<Path, Rule>
     Ok(path)
 }
 
-/// The path length of an AS_PATH's value, whose AS numbers have four octets where it is wide and else two: the AS numbers
+/// The path length of an AS_PATH's value, whose AS numbers have four octets if it is wide and else two: the AS numbers
 /// in its sequences, and 1 for each set that isn't empty; confederation segments count nothing (RFC 4271, section 9.1.2.2 a;
 /// RFC 5065, section 5.3). A wrong segment breaks `AttributeValue`.
 ///
@@ -123,9 +123,9 @@ pub fn path_length(bytes: &[u8], wide: bool) -> Result<u32, Rule>
     Ok(read_path(bytes, wide)?.length)
 }
 
-/// The AS in which a route originates by an AS_PATH's value, whose AS numbers have four octets where it is wide and else two: the
-/// last AS number of the last segment, where that is a sequence that isn't empty, else none (RFC 6811, section 2). A wrong segment
-/// breaks `AttributeValue`.
+/// The AS in which a route originates by an AS_PATH's value (RFC 6811, section 2): the last AS number of the last segment, if
+/// that is a sequence that isn't empty, else none. AS numbers have four octets if the path is wide and else two. A wrong
+/// segment breaks `AttributeValue`.
 ///
 /// The octets are fewer than 2^32, so that the path's length fits.
 pub fn path_origin(bytes: &[u8], wide: bool) -> Result<Option<u32>, Rule>

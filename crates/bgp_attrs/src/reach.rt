@@ -27,7 +27,7 @@ pub fn reach_in_rib<'a>(family: Family, value: &'a [u8]) -> Option<Reach<'a>>
     }
 }
 
-/// MP_REACH_NLRI of an UPDATE behind its AFI and SAFI; another family gives nothing.
+/// MP_REACH_NLRI of an UPDATE after its AFI and SAFI; another family gives nothing.
 #[tactic(auto, unfolding(wire_model::specs::Attribute::reach_in))]
 pub fn reach_in_update(
     ids: bool,
@@ -50,7 +50,7 @@ pub fn reach_in_update(
     }))
 }
 
-/// MP_UNREACH_NLRI of an UPDATE behind its AFI and SAFI; another family gives nothing.
+/// MP_UNREACH_NLRI of an UPDATE after its AFI and SAFI; another family gives nothing.
 #[tactic(auto, unfolding(wire_model::specs::Attribute::unreach_in))]
 pub fn unreach_in_update(
     ids: bool,

@@ -19,11 +19,11 @@ use octet_fields::{octet, octets};
 pub struct RibAttrs<'a> {
     /// How long the path is; 0 without an AS_PATH.
     pub path: u32,
-    /// The AS in which the route originates (RFC 6811, section 2); None without an AS_PATH, and where it doesn't tell the origin.
+    /// The AS in which the route originates (RFC 6811, section 2); None without an AS_PATH, and if it doesn't give the origin.
     pub origin: Option<u32>,
     /// NEXT_HOP.
     pub hop: HopOctets<'a>,
-    /// The next hop of MP_REACH_NLRI; none where that is missing, can't be read or isn't of the record's family.
+    /// The next hop of MP_REACH_NLRI; none if that is missing, can't be read or isn't of the record's family.
     pub reach: HopOctets<'a>,
 }
 
@@ -97,7 +97,7 @@ fn take_value<'a>(
     Ok(())
 }
 
-/// Takes the attribute at the front, and gives what follows it.
+/// Takes the first attribute, and returns what follows it.
 #[tactic(auto, unfolding(wire_model::specs::Attribute::attribute_at))]
 #[inline(always)]
 fn take_attribute<'a>(

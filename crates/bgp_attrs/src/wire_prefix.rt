@@ -29,11 +29,11 @@ pub enum WireFault {
 pub struct Nlri {
     /// The prefix.
     pub prefix: Prefix,
-    /// The path identifier, 0 where there is none.
+    /// The path identifier, 0 if there is none.
     pub id: u32,
 }
 
-/// The prefix at the front (RFC 4271, section 4.3), and how many octets it takes: its length in bits, and the fewest octets
+/// The prefix that comes first (RFC 4271, section 4.3), and how many octets it takes: its length in bits, and the fewest octets
 /// that hold them. Bits past the length are dropped.
 #[tactic(auto, unfolding(wire_model::specs::Wire::prefix_at))]
 fn prefix_in(bytes: &[u8], family: Family) -> Result<(Prefix, usize), WireFault>
@@ -55,7 +55,7 @@ fn prefix_in(bytes: &[u8], family: Family) -> Result<(Prefix, usize), WireFault>
     Ok((Prefix::from_front(family, len, &rest[..count]), 1 + count))
 }
 
-/// The path identifier at the front, or 0 where there is none (RFC 7911, section 3), and what follows it.
+/// The path identifier that comes first, or 0 if there is none (RFC 7911, section 3), and what follows it.
 pub fn path_id<E: Drop>(fault: E, ids: bool, bytes: &[u8]) -> Result<(u32, &[u8]), E>
     ensures value { Gives (λ x. (x.0, x.1.now)) result (number_at fault (id_size ids) bytes.now) }
     ensures within { IfOk result (λ x. length x.1.now ≤ length bytes.now) }
@@ -67,8 +67,8 @@ pub fn path_id<E: Drop>(fault: E, ids: bool, bytes: &[u8]) -> Result<(u32, &[u8]
     }
 }
 
-/// The entry of NLRI at the front, and what follows it: the path identifier, where entries have one, then the prefix. A cut breaks the
-/// rule, and a length over the family's `PrefixLength`.
+/// The entry of NLRI that comes first, and what follows it: the path identifier, if entries have one, then the prefix. A cut
+/// breaks the rule, and a length over the family's `PrefixLength`.
 #[tactic(auto, unfolding(wire_model::specs::Wire::nlri_at))]
 pub fn next_nlri(cut: Rule, ids: bool, family: Family, bytes: &[u8]) -> Result<(Nlri, &[u8]), Rule>
     ensures value { Gives (λ x. (nlri_as x.0, x.1.now)) result (nlri_at cut ids family bytes.now) }
@@ -79,8 +79,8 @@ pub fn next_nlri(cut: Rule, ids: bool, family: Family, bytes: &[u8]) -> Result<(
     Ok((Nlri { prefix, id }, rest))
 }
 
-/// The path identifier at the front, or 0 where prefixes have none (RFC 7911, section 3), the prefix behind it, and how many octets both
-/// take. A cut identifier is told before a length that is too long.
+/// The path identifier that comes first, or 0 if prefixes have none (RFC 7911, section 3), the prefix after it, and how many
+/// octets both take. A cut identifier is reported before a length that is too long.
 #[tactic(auto, unfolding(wire_model::specs::Wire::nlri_at))]
 pub fn read_wire_prefix(
     bytes: &[u8],
@@ -96,7 +96,7 @@ pub fn read_wire_prefix(
     Ok((id, prefix, bytes.len() - rest.len() + taken))
 }
 
-/// The prefix at the front, and what follows it. A cut breaks the rule, and a length over the family's `PrefixLength`.
+/// The prefix that comes first, and what follows it. A cut breaks the rule, and a length over the family's `PrefixLength`.
 pub fn prefix(cut: Rule, family: Family, bytes: &[u8]) -> Result<(Prefix, &[u8]), Rule>
     ensures value { Gives (λ x. (prefix_as x.0, x.1.now)) result (prefix_at cut family bytes.now) }
     ensures shorter { IfOk result (λ x. length x.1.now < length bytes.now) }

@@ -11,7 +11,7 @@ is_out free i = not (slice_index_or free i true)
 abbrev pub count_free : {T : Type 0} → Space T → ℕ
 count_free s = arena.free_count s.free
 
--- no order has two free blocks, as it is where nothing was given back: then a block is refused only where too few places are free
+-- no order has two free blocks, as it is if nothing was given back: then a block is refused only if too few places are free
 abbrev pub IsFresh : {T : Type 0} → Space T → Type 0
 IsFresh s = OneEach (blocks s.order s.free)
 

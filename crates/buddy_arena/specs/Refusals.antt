@@ -5,7 +5,7 @@ use Rattle.buddy_arena.specs.Powers.{up}
 use Rattle.buddy_arena.specs.declared.blocks.Refused.{Refused}
 use Rattle.buddy_arena.specs.declared.blocks.Refused.TheVariants as refused
 
--- where it is no want of memory, no free block is large enough for so many places, and the greatest order of a free block is told
+-- if it isn't out of memory, no free block is large enough for n places, and the greatest order of a free block is named
 abbrev pub IsRefusal : {T : Type 0} → Refused → ℕ → Space T → Type 0
 IsRefusal refused.Memory count s = Unit {0}
 IsRefusal (refused.Full f) count s = (2 ^ f.order ≡ up count) × NoneFrom f.order (blocks s.order s.free) × IsGreatest f.largest (blocks s.order s.free)

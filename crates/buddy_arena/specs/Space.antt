@@ -11,11 +11,11 @@ abbrev pub all_true : List Bool → Bool
 all_true [] = true
 all_true (b ∷ bs) = b && all_true bs
 
--- the same block, told from further below
+-- the same block, seen from further below
 abbrev pub shift : ℕ → Free → Free
 shift n b = (b.0, n + b.1)
 
--- the free blocks of a region of 2 ^ j places, by their places: one where all is free, else those of its halves
+-- the free blocks of a region of 2 ^ j places, by their places: one if all is free, else those of its halves
 unfoldable pub blocks : ℕ → List Bool → List Free
 blocks zero free = cond (all_true free) ((0, 0) ∷ []) []
 blocks (suc j) free = cond (all_true free) ((suc j, 0) ∷ []) (blocks j (take (2 ^ j) free) ++ map (shift (2 ^ j)) (blocks j (drop (2 ^ j) free)))
@@ -37,7 +37,7 @@ marked zero zero v (b ∷ bs) = b ∷ bs
 marked zero (suc n) v (b ∷ bs) = v ∷ marked zero n v bs
 marked (suc p) n v (b ∷ bs) = b ∷ marked p n v bs
 
--- 1 where a test holds
+-- 1 if a test holds
 abbrev pub tick : Bool → ℕ
 tick true = 1
 tick false = 0
@@ -65,7 +65,7 @@ pub record IsLeastFrom (k m : ℕ) (bs : List Free) : Type 0 where
 abbrev pub NoneFrom : ℕ → List Free → Type 0
 NoneFrom k bs = (i : ℕ) → k ≤ i → has_order i bs ≡ false
 
--- the greatest order of a free block, None where there is none
+-- the greatest order of a free block, None if there is none
 abbrev pub IsGreatest : Option ℕ → List Free → Type 0
 IsGreatest None bs = NoneFrom 0 bs
 IsGreatest (Some m) bs = (has_order m bs ≡ true) × NoneFrom (m + 1) bs
@@ -113,7 +113,7 @@ abbrev pub free_count : List Bool → ℕ
 free_count [] = 0
 free_count (b ∷ bs) = tick b + free_count bs
 
--- no order has two free blocks, as it is where nothing was given back
+-- no order has two free blocks, as it is if nothing was given back
 abbrev pub OneEach : List Free → Type 0
 OneEach bs = (i : ℕ) → num i bs ≤ 1
 

@@ -23,7 +23,7 @@ pub struct Block {
 pub struct Full {
     /// The order that was asked for.
     pub order: u8,
-    /// The greatest order of a free block, `None` where nothing is free.
+    /// The greatest order of a free block, `None` if nothing is free.
     pub largest: Option<u8>,
 }
 
@@ -78,7 +78,7 @@ impl<T: Copy> Arena<T> {
     ///
     /// # Errors
     ///
-    /// No memory.
+    /// Out of memory.
     pub fn new(alloc: Global, order: u8, fill: T) -> Result<Self, AllocError>
         requires { order ≤ 26 }
         ensures made { IfOk result (λ a. a ≡ empty order fill) }
@@ -100,7 +100,7 @@ impl<T: Copy> Arena<T> {
     /// of the orders that it splits, and in an arena to which something was given back that of the arena's order.
     ///
     /// In an arena to which nothing was given back since it was made or cleared no order has two free blocks; then it is
-    /// refused only where fewer than 2 ^ order places are free.
+    /// refused only if fewer than 2 ^ order places are free.
     ///
     /// # Errors
     ///
@@ -163,7 +163,7 @@ impl<T: Copy> Arena<T> {
         self.left += whole_mask(block.order);
     }
 
-    /// The greatest order of a free block, `None` where nothing is free.
+    /// The greatest order of a free block, `None` if nothing is free.
     pub fn largest(&self) -> Option<u8>
         ensures { IsGreatest result (blocks self.now.order self.now.free) }
     {

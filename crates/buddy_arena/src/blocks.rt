@@ -20,7 +20,7 @@ pub(crate) struct Aside {
 /// Why a block is not taken.
 #[derive(Clone, Copy, Debug, PartialEq, Eq)]
 pub enum Refused {
-    /// No memory for the list of blocks.
+    /// Out of memory for the list of blocks.
     Memory,
     /// No free block of the arena is large enough.
     Full(Full),
@@ -36,7 +36,7 @@ fn places(order: u8) -> u64
 /// The blocks of one arena that belong to no present version, or won't: what the pending update took, what it replaces, and what is
 /// retired at which end. Time is the number of ends so far.
 ///
-/// It holds their places alone: each call that gives blocks back is handed the arena.
+/// It holds their places alone: each call that gives blocks back gets the arena.
 #[derive(Drop)]
 pub struct Blocks {
     taken: Vec<Block>,
@@ -167,11 +167,11 @@ impl Blocks {
             .saturating_sub(arena.free_total() - free);
     }
 
-    /// Takes a block of the arena for so many places, for the pending update.
+    /// Takes a block of the arena for `count` places, for the pending update.
     ///
     /// # Errors
     ///
-    /// No memory, or no free block is large enough. Nothing has changed.
+    /// Out of memory, or no free block is large enough. Nothing has changed.
     pub fn take<T: Copy>(&mut self, arena: &mut Arena<T>, count: u32) -> Result<Block, Refused>
         requires some { 0 < count }
         requires sized { IsSized arena.old }
@@ -207,7 +207,7 @@ impl Blocks {
     ///
     /// # Errors
     ///
-    /// No memory. Nothing has changed.
+    /// Out of memory. Nothing has changed.
     pub fn set_aside(&mut self, block: Block) -> Result<(), AllocError>
         requires { self.old.time < 18446744073709551615 }
         ensures ok { OnOk result (self.new ≡ with_replaced self.old

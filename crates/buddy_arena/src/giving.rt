@@ -22,8 +22,8 @@ pub(crate) fn give_all<T: Copy>(arena: &mut Arena<T>, blocks: &[Block])
     }
 }
 
-/// Gives those of the first blocks back that were retired at an end no later than this time, and tells how many they are: they go
-/// from the queue's front.
+/// Gives those of the first blocks back that were retired at an end no later than this time, and returns how many they are: they
+/// go from the head of the queue.
 pub(crate) fn release<T: Copy>(
     arena: &mut Arena<T>,
     aside: &mut VecDeque<Aside>,

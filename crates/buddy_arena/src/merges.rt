@@ -8,7 +8,7 @@ use crate::arena::Block;
 use crate::region::{make_bare, make_whole, mask_of, places_of, whole_mask};
 use crate::word::span;
 
-/// Puts a region together from its halves, which merge where both are free as a whole.
+/// Puts a region together from its halves, which merge if both are free as a whole.
 fn rejoin(root: &mut u64, low: &mut [u64], high: &mut [u64], at: u8, base: u8)
     requires right { IsMaskTree base at low.old × IsMaskTree base at high.old }
     requires few { (base ≤ 6) × (base + at < 30) }

@@ -8,7 +8,7 @@ ghost use Rattle.buddy_arena.specs.Places.{TakesPlaces, is_out, count_free, IsFr
 
 use crate::{Arena, Block};
 
-/// The order of the least block that holds so many.
+/// The order of the least block that holds `count` places.
 #[tactic(auto, using(crate::proofs::Placing::order_is, crate::proofs::Placing::order_small, crate::proofs::Placing::order_most))]
 pub fn order_for(count: u32) -> u8
     requires { 0 < count }
@@ -18,7 +18,7 @@ pub fn order_for(count: u32) -> u8
     (32 - (count - 1).leading_zeros()) as u8
 }
 
-/// The size of the least block that holds so many, 0 for none.
+/// The size of the least block that holds `count` places, 0 for none.
 #[tactic(auto, using(crate::proofs::Placing::size_is, crate::proofs::Placing::size_none))]
 pub fn block_size(count: u32) -> u64
     ensures { result ≡ up count }
@@ -29,7 +29,7 @@ pub fn block_size(count: u32) -> u64
     1 << order_for(count)
 }
 
-/// Takes places for so many, a block where there are any; nothing where no free block is large enough.
+/// Takes `count` places, a block if there are any; nothing if no free block is large enough.
 pub fn take_places<T: Copy>(arena: &mut Arena<T>, count: u32) -> Option<u32>
     requires { IsSized arena.old }
     ensures takes { IfSome result (λ base. TakesPlaces base (up count) (is_out arena.old.free)

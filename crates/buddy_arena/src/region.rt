@@ -1,7 +1,7 @@
 //! Regions above the words: a region's first cell is the mask of its free blocks' orders, a bit each; the cells of its halves
 //! follow, down to the words.
 //!
-//! Where a region is free as a whole, and where nothing of it is, the cells of its halves say that nothing is free: so a
+//! If a region is free as a whole, and if nothing of it is, the cells of its halves say that nothing is free: so a
 //! block of any size is taken or given by its own cell.
 
 ghost use Rattle.std.specs.Prelude.{◌≡◌, ◌+◌, ◌-◌, ◌*◌, ◌/◌, ◌^◌, ◌<◌, ◌≤◌, true, false, IfOk, Option};

@@ -1,4 +1,4 @@
-//! Words of up to 64 places, a bit each, set where the place is free.
+//! Words of up to 64 places, a bit each, set if the place is free.
 //!
 //! A word of 2 ^ k places is a buddy system by itself: what blocks are free in it is read by halves.
 

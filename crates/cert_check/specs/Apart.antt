@@ -14,7 +14,7 @@ next_apart x y h =
     cond (nat_lt x.start y.start) (record { start = x.start; first = x.hop; second = h })
     (cond (nat_lt y.start x.start) (record { start = y.start; first = h; second = y.hop }) (record { start = x.start; first = x.hop; second = y.hop }))
 
--- the least number that gets different hops, with both; none where there is none
+-- the least number that gets different hops, with both; none if there is none
 abbrev pub IsFirstApart : List Run → List Run → Option Apart → Type 0
 IsFirstApart a b None = (n : ℕ) → run_hop_at a n ≡ run_hop_at b n
 IsFirstApart a b (Some x) =

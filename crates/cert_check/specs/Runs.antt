@@ -19,7 +19,7 @@ part_as d e = record { prefix = take e.len (bits_of d e.bits); hop = e.hop }
 abbrev pub parts_table : ℕ → List Part → Table
 parts_table d parts = map (λ e. part_as d e) parts
 
--- the hop of the last run that begins at the number or before it; 0 where none does
+-- the hop of the last run that begins at the number or before it; 0 if none does
 abbrev pub run_hop_at : List Run → ℕ → ℕ
 run_hop_at runs n = fold (λ h r. cond (nat_le r.start n) r.hop h) 0 runs
 
@@ -36,7 +36,7 @@ AreRuns h (r ∷ runs) = (h ≢ r.hop) × AllByRecursion (λ s. r.start < s.star
 abbrev pub Below : ℕ → List Run → Type 0
 Below n runs = AllByRecursion (λ r. r.start < n) runs
 
--- a run is put at the end where the hop isn't the last one's
+-- a run is put at the end if the hop isn't the last one's
 abbrev pub Noted : ℕ → ℕ → List Run → List Run → Type 0
 Noted start hop old new = new ≡ cond (nat_eq (last_hop old) hop) old (old ++ record { start = start; hop = hop } ∷ [])
 
@@ -50,7 +50,7 @@ Swept d L h start old new =
 abbrev pub RunsTell : Family → Entries → List Run → Type 0
 RunsTell f L runs = Below (2 ^ width f) runs × AreRuns 0 runs × ((n : ℕ) → n < 2 ^ width f → run_hop_at runs n ≡ lpm (of_family f L) (bits_of (width f) n) 0)
 
--- the first so many runs begin at the number or before it, the others after it
+-- the first n runs begin at the number or before it, the others after it
 abbrev pub CountsBegun : ℕ → List Run → ℕ → Type 0
 CountsBegun n runs i = AllByRecursion (λ r. r.start ≤ n) (take i runs) × AllByRecursion (λ r. n < r.start) (drop i runs)
 

@@ -19,7 +19,7 @@ no_as (no.LeafWrong n) = model.LeafWrong n
 no_as (no.JoinWrong n said due) = model.JoinWrong n said due
 no_as (no.NotLeast f entries least) = model.NotLeast f entries least
 
--- P of what is wrong, where that is the error
+-- P of what is wrong, if that is the error
 abbrev pub IfNo : CheckError → (code.No → Type 0) → Type 0
 IfNo (check_error.No x) P = P x
 IfNo check_error.NoMemory P = Unit {0}

@@ -120,12 +120,12 @@ pub fn differ_in(a: &[Run], b: &[Run], family: Family) -> Option<Differ>
     differ_of(first_apart(a, b), family)
 }
 
-/// The least address that gets different hops from two tables, IPv4 before IPv6; none exactly where the tables are alike in
+/// The least address that gets different hops from two tables, IPv4 before IPv6; none exactly if the tables are alike in
 /// both families. An entry that drops answers as no entry does.
 ///
 /// # Errors
 ///
-/// No memory.
+/// Out of memory.
 pub fn same(alloc: Global, a: &[Entry], b: &[Entry]) -> Result<Option<Differ>, AllocError>
     ensures answer { IfOk result (λ d. option_map differ_as d
         ≡ not_same (map entry_as a.now) (map entry_as b.now)) }

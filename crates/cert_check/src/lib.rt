@@ -1,7 +1,7 @@
-//! A checker of certificates that trusts nobody: it reads routes, a table and rows, whoever wrote them, and says yes only
-//! where the table answers every address as the routes do and no table that does has fewer entries.
+//! A checker of certificates that trusts nobody. It reads routes, a table and rows, whoever wrote them. It says yes only if
+//! the table answers every address as the routes do and no table that does has fewer entries.
 //!
-//! Both tables are told as runs of addresses with one hop, which say where they first differ, and whether all addresses of
+//! Both tables are held as runs of addresses with one hop, which say where they first differ, and whether all addresses of
 //! a leaf get its hop. The rows are read once, with a stack. Sorting aside, all of it is linear in the entries' bits and in
 //! the rows times the bits of an address; no call goes more than 128 levels down.
 #![tactic(auto)]

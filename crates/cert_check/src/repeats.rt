@@ -1,6 +1,6 @@
 //! Prefixes that stand twice.
 //!
-//! Printed lists stand in the order of prefixes, where one look at neighbours shows that no prefix stands twice. Only a list
+//! Printed lists stand in the order of prefixes, in which one look at neighbours shows that no prefix stands twice. Only a list
 //! that doesn't is put into a set.
 
 ghost use Rattle.std.specs.Prelude.{◌≡◌, map, option_map, true, IfOk};
@@ -43,12 +43,12 @@ fn first_again(alloc: Global, entries: &[Entry]) -> Result<Option<Prefix>, Alloc
     Ok(first)
 }
 
-/// The first prefix that stands again later in the list. It costs the list's length where that stands in the order of prefixes, else
+/// The first prefix that stands again later in the list. It costs the list's length if that stands in the order of prefixes, else
 /// n log n.
 ///
 /// # Errors
 ///
-/// No memory.
+/// Out of memory.
 pub fn first_twice(alloc: Global, entries: &[Entry]) -> Result<Option<Prefix>, AllocError>
     ensures { IfOk result (λ p. option_map prefix_as p ≡ twice (map entry_as entries.now)) }
 {

@@ -1,7 +1,7 @@
 //! What the addresses of a family get from a table, as runs of addresses with one hop.
 //!
 //! A run is a first address and the hop of all addresses from there to the next run; before the first run addresses get no
-//! hop. Neighbours have different hops, so equal answers are equal lists. The runs are told by going down the binary tree of
+//! hop. Neighbours have different hops, so equal answers are equal lists. The runs are found by going down the binary tree of
 //! prefixes, as a radix sort does: at each prefix the entries within it are dealt out to its halves. That takes a step for
 //! each bit of each entry, and goes 128 levels down at most.
 
@@ -113,7 +113,7 @@ fn deal(alloc: Global, parts: Vec<Part>, left: u8) -> Result<Halves, AllocError>
     Ok(halves)
 }
 
-/// Adds a run where the hop isn't the last run's.
+/// Adds a run if the hop isn't the last run's.
 fn note(runs: &mut Vec<Run>, start: u128, hop: u16) -> Result<(), AllocError>
     ensures { OnOk result (Noted start hop runs.old.items runs.new.items) }
 {
@@ -127,7 +127,7 @@ fn note(runs: &mut Vec<Run>, start: u128, hop: u16) -> Result<(), AllocError>
     Ok(())
 }
 
-/// Adds the runs of such a region as `sweep` does, where it has this entry alone. It takes memory for runs alone.
+/// Adds the runs of such a region as `sweep` does, if it has this entry alone. It takes memory for runs alone.
 fn sweep_alone(
     part: &Part,
     inherited: u16,
@@ -198,7 +198,7 @@ fn sweep(
 ///
 /// # Errors
 ///
-/// No memory.
+/// Out of memory.
 pub fn runs_of(alloc: Global, entries: &[Entry], family: Family) -> Result<Vec<Run>, AllocError>
     ensures { IfOk result (λ v. RunsTell family (map entry_as entries.now) v.items) }
 {
@@ -210,7 +210,7 @@ pub fn runs_of(alloc: Global, entries: &[Entry], family: Family) -> Result<Vec<R
     Ok(runs)
 }
 
-/// The greatest number at which one of the first so many runs begins, 0 for none.
+/// The greatest number at which one of the first `place` runs begins, 0 for none.
 fn last_start(runs: &[Run], place: usize) -> u128
     requires { place ≤ length runs.now }
     ensures { AreRuns 0 runs.now → AllByRecursion (λ r. r.start ≤ result) (take place runs.now) }
@@ -218,7 +218,7 @@ fn last_start(runs: &[Run], place: usize) -> u128
     if place == 0 { 0 } else { runs[place - 1].start }
 }
 
-/// Whether all runs but the first so many begin after the number.
+/// Whether all runs but the first `place` begin after the number.
 fn begin_after(runs: &[Run], place: usize, number: u128) -> bool
     requires { place ≤ length runs.now }
     ensures { AreRuns 0 runs.now → result ≡ true
@@ -231,7 +231,7 @@ fn begin_after(runs: &[Run], place: usize, number: u128) -> bool
     }
 }
 
-/// Whether so many runs begin at the number or before it; false where it's hard to say.
+/// Whether `place` runs begin at the number or before it; false if it's hard to say.
 fn are_begun(runs: &[Run], number: u128, place: usize) -> bool
     ensures bound { result ≡ true → place ≤ length runs.now }
     ensures begun { result ≡ true → AreRuns 0 runs.now → CountsBegun number runs.now place }
@@ -239,7 +239,7 @@ fn are_begun(runs: &[Run], number: u128, place: usize) -> bool
     place <= runs.len() && last_start(runs, place) <= number && begin_after(runs, place, number)
 }
 
-/// How many runs begin at the number or before it. It is quick where it is the guess or one more.
+/// How many runs begin at the number or before it. It is quick if it is the guess or one more.
 fn begun(runs: &[Run], number: u128, guess: usize) -> usize
     ensures bound { result ≤ length runs.now }
     ensures begun { AreRuns 0 runs.now → CountsBegun number runs.now result }
@@ -254,7 +254,7 @@ fn begun(runs: &[Run], number: u128, guess: usize) -> usize
     runs.partition_point(|run| run.start <= number)
 }
 
-/// The hop of the last of the first so many runs.
+/// The hop of the last of the first `place` runs.
 fn hop_before(runs: &[Run], place: usize) -> u16
     requires { place ≤ length runs.now }
     ensures { result ≡ last_hop (take place runs.now) }

@@ -73,7 +73,7 @@ pub(crate) fn one_if_none(hops: &[u16]) -> u64
     if hops.len() == 0 { 1 } else { 0 }
 }
 
-/// The common hops, or where there are none all hops.
+/// The common hops or, if there are none, all hops.
 pub(crate) fn or_all(common: Hops, mut low: Hops, high: &[u16]) -> Result<Hops, AllocError>
     ensures { IfOk result (λ v. v.items ≡ or_else common.items (low.items ++ high.now)) }
 {

@@ -13,8 +13,8 @@ use crate::runs::{Run, runs_of};
 use fib_addr::{Entry, Family};
 use std::alloc::{AllocError, Global};
 
-/// What the addresses of both families get from a table, told as runs of addresses with one hop. A table that is compared with
-/// several others is told once.
+/// What the addresses of both families get from a table, as runs of addresses with one hop. The runs of a table that is compared
+/// with several others are found once.
 #[derive(Drop)]
 pub struct TableRuns {
     v4: Vec<Run>,
@@ -26,7 +26,7 @@ impl TableRuns {
     ///
     /// # Errors
     ///
-    /// No memory.
+    /// Out of memory.
     pub fn new(alloc: Global, entries: &[Entry]) -> Result<TableRuns, AllocError>
         ensures tells { IfOk result (TellsBoth (map entry_as entries.now)) }
         ensures runs { IfOk result AreOfBoth }
@@ -49,13 +49,13 @@ impl TableRuns {
         }
     }
 
-    /// The least address that gets different hops from this table and from these entries, IPv4 before IPv6; none exactly where
+    /// The least address that gets different hops from this table and from these entries, IPv4 before IPv6; none exactly if
     /// the two are alike in both families. An entry that drops answers as no entry does. It costs n log n in the entries, and of
     /// this table no more runs than they have.
     ///
     /// # Errors
     ///
-    /// No memory.
+    /// Out of memory.
     pub fn first_differ(
         &self,
         alloc: Global,

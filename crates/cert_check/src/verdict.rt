@@ -142,7 +142,7 @@ fn first_wrong(
 /// # Errors
 ///
 /// What is wrong, the first in this order: a prefix that stands twice in the routes, then in the table; the least address
-/// that the table answers otherwise; the first wrong row; too many entries, of IPv4, then of IPv6. Or no memory.
+/// that the table answers otherwise; the first wrong row; too many entries, of IPv4, then of IPv6. Or out of memory.
 pub fn check(
     alloc: Global,
     routes: &[Entry],

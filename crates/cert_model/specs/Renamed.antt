@@ -21,6 +21,6 @@ renamed_rows to rows = map (renamed_row to) rows
 abbrev pub hops_of_entries : Entries → List ℕ
 hops_of_entries E = 0 ∷ map (λ e. e.1) E
 
--- two of these hops get one number only where they are one
+-- two of these hops get one number only if they are one
 abbrev pub KeepsApart : (ℕ → ℕ) → List ℕ → Type 0
 KeepsApart to hops = (g h : ℕ) → IsTrue (is_in g hops) → IsTrue (is_in h hops) → to g ≡ to h → g ≡ h

@@ -13,7 +13,7 @@ use Rattle.table_model.specs.Sets.{is_in, joint, apart}
 use Rattle.cert_model.specs.Rows.{CertRow, leaf_row, join_row, bound_row, whole_prefix}
 
 -- The set and the k of a region, by rules. A leaf has the one hop of its addresses, and k 0. A join has the common hops of
--- its halves and the sum of their k, or where there are none all their hops and one more.
+-- its halves and the sum of their k, or, if there are none, all their hops and one more.
 pub data IsRight (R : Entries) : Prefix → List ℕ → ℕ → Type 0 where
   leaf : {p : Prefix} {h : ℕ} → IsPrefix p → AllGet R p h → IsRight R p (h ∷ []) 0
   join : {p : Prefix} {S T : List ℕ} {k l : ℕ} → length p.bits < width p.family → IsRight R (half_at false p) S k → IsRight R (half_at true p) T l

@@ -21,12 +21,12 @@ pub data CertRow : Type 0 where
 abbrev pub whole_prefix : Family → Prefix
 whole_prefix f = record { family = f; bits = [] }
 
--- a leaf row where there is one answer, else these rows
+-- a leaf row if there is one answer, else these rows
 abbrev pub leaf_or : Option ℕ → Prefix → List CertRow → List CertRow
 leaf_or (Some h) p rows = leaf_row p h ∷ []
 leaf_or None p rows = rows
 
--- the rows of the region p of d more bits: a leaf where there is one answer, else the lower half's, the upper half's, and a join
+-- the rows of the region p of d more bits: a leaf if there is one answer, else the lower half's, the upper half's, and a join
 unfoldable pub region_rows : ℕ → (List Bool → ℕ) → Prefix → List CertRow
 region_rows zero f p = leaf_row p (f []) ∷ []
 region_rows (suc d) f p =

@@ -1,4 +1,4 @@
--- Rows behind rows.
+-- Rows after rows.
 use Rattle.std.specs.Prelude.{◌≡◌, List, ◌++◌}
 use Rattle.std.proofs.Common.{ap, ◌∙◌, append_assoc}
 use Rattle.cert_model.specs.Rows.{CertRow}

@@ -23,7 +23,8 @@ use Rattle.cert_model.specs.Right.{Item, leaf_item, join_item, joint_k, bound_by
 -- What is wrong. `Twice`: the prefix stands twice in the routes or in the table. `NotSame`: the address gets the first hop
 -- from the routes and the second from the table. `Shape`: the row, counted from 1, isn't one that may stand there.
 -- `LeafWrong`: some address of the leaf's region gets another hop from the routes. `JoinWrong`: the row says the first number
--- where the second is due. `NotLeast`: the table has so many entries of the family, and a least one fewer, the second number.
+-- where the second is due. `NotLeast`: the table has as many entries of the family as the first number says,
+-- and a least one fewer, the second number.
 pub data No : Type 0 where
   Twice : Prefix → No
   NotSame : Address → ℕ → ℕ → No

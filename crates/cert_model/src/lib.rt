@@ -28,7 +28,7 @@ pub use packed::PackedRow;
 pub use row::Row;
 pub use sink::RowSink;
 
-/// The one answer of a region is found where there is one.
+/// The one answer of a region is found if there is one.
 pub fn one_answer_law()
     ensures { (d : ℕ) (f : List Bool → ℕ) (h : ℕ) → (one_answer d f ≡ Some h)
         ↔ ((a : List Bool) → length a ≡ d → f a ≡ h) }
@@ -51,32 +51,32 @@ pub fn completeness_law()
         IsCertificate R T (certificate_of R) }
 {}
 
-/// No prefix stands twice exactly where all prefixes are distinct.
+/// No prefix stands twice exactly if all prefixes are distinct.
 pub fn twice_law()
     ensures { (L : Entries) → (twice L ≡ None) ↔ IsDistinct same_prefix (keys_of L) }
 {}
 
-/// No answers differ exactly where the tables are alike in both families; else the least address that gets different answers
-/// is told, with both.
+/// No answers differ exactly if the tables are alike in both families; else the least address that gets different answers
+/// is returned, with both.
 pub fn not_same_law()
     ensures none { (R T : Entries) → (not_same R T ≡ None) ↔ AlikeInBoth R T }
     ensures some { (R T : Entries) (x : No) → not_same R T ≡ Some x → (a : Address)
         × (x ≡ NotSame a (match_in R a) (match_in T a)) × IsLeastDiffering R T a }
 {}
 
-/// A table has too many entries of a family exactly where an alike table has fewer.
+/// A table has too many entries of a family exactly if an alike table has fewer.
 pub fn not_least_law()
     ensures { (R T : Entries) (f : Family) → (too_many_in R T f ≢ None) ↔
         ((L : Table) × IsTable (width f) L × Alike (width f) (of_family f R) L × (length L < length (of_family f T))) }
 {}
 
-/// Nothing is wrong exactly where the rows are a certificate.
+/// Nothing is wrong exactly if the rows are a certificate.
 pub fn verdict_law()
     ensures { (R T : Entries) (rows : List CertRow) → AllByRecursion RowFits rows
         → (verdict R T rows ≡ None) ↔ IsCertificate R T rows }
 {}
 
-/// The numbers of hops don't matter: other numbers make a certificate of a certificate, where 0 stays 0, and the hops of the
+/// The numbers of hops don't matter: other numbers make a certificate of a certificate, if 0 stays 0, and the hops of the
 /// routes keep numbers that differ from each other and from 0.
 pub fn renaming_law()
     ensures { (to : ℕ → ℕ) (R T : Entries) (rows : List CertRow) → to 0 ≡ 0 → KeepsApart to (hops_of_entries R) →

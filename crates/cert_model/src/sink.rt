@@ -16,11 +16,11 @@ pub trait RowSink {
 
     ghost takes: { Self → List CertRow → Self → Type 0 };
 
-    /// Takes a row, behind those that it took.
+    /// Takes a row, after those that it took.
     ///
     /// # Errors
     ///
-    /// No memory; then nothing is said of what it holds.
+    /// Out of memory; then nothing is said of what it holds.
     fn put(&mut self, row: Row) -> Result<(), AllocError>
         requires { ready self.old }
         ensures ready { OnOk result (ready self.new) }

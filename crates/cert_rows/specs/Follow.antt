@@ -14,7 +14,7 @@ cap n most = cond (nat_lt most n) most n
 abbrev pub region_above : Prefix → Prefix
 region_above p = first_bits (length p.bits - 1) (first_address p)
 
--- the prefix of so many bits at the first address of the upper half of the region above
+-- the prefix of n bits at the first address of the upper half of the region above
 abbrev pub next_leaf : Prefix → ℕ → Prefix
 next_leaf p len = first_bits (cap len (width p.family)) (first_address (half_at true (region_above p)))
 

@@ -11,23 +11,23 @@ use Rattle.cert_rows.specs.declared.near.Near.{Near}
 abbrev pub first_prefix : Prefix
 first_prefix = whole_prefix V4
 
--- the next row and the whole rows behind it: the row that follows, or else the first of the whole rows
+-- the next row and the whole rows after it: the row that follows, or else the first of the whole rows
 abbrev pub taken_row : Option CertRow → List CertRow → Option (CertRow × List CertRow)
 taken_row (Some row) whole = Some (row, whole)
 taken_row None [] = None
 taken_row None (row ∷ whole) = Some (row, whole)
 
--- the row, and those that these say of it and of the whole rows behind it
+-- the row, and those that these say of it and of the whole rows after it
 abbrev pub row_and : (Prefix → List CertRow → List CertRow) → Option (CertRow × List CertRow) → List CertRow
 row_and rows None = []
 row_and rows (Some next) = next.0 ∷ rows (row_prefix next.0) next.1
 
--- the rows that these are, behind a row of this prefix; the whole ones among them come from a list
+-- the rows that these are, after a row of this prefix; the whole ones among them come from a list
 abbrev pub rows_held : List Near → Prefix → List CertRow → List CertRow
 rows_held [] p whole = []
 rows_held (near ∷ more) p whole = row_and (rows_held more) (taken_row (near_row near p) whole)
 
--- what is said of the prefix of the row and of the whole rows behind it
+-- what is said of the prefix of the row and of the whole rows after it
 abbrev pub SaidBehind : (Prefix → List CertRow → Type 0) → Option (CertRow × List CertRow) → Type 0
 SaidBehind P None = ⊥
 SaidBehind P (Some next) = P (row_prefix next.0) next.1
@@ -37,7 +37,7 @@ abbrev pub RowsEndAt : Prefix → List Near → Prefix → List CertRow → Type
 RowsEndAt last [] p whole = (whole ≡ []) × (p ≡ last)
 RowsEndAt last (near ∷ more) p whole = SaidBehind (RowsEndAt last more) (taken_row (near_row near p) whole)
 
--- a row was taken from the front, if there was one
+-- the first row was taken, if there was one
 abbrev pub TakesRow : List CertRow → List CertRow → Option CertRow → Type 0
 TakesRow old new None = (old ≡ []) × (new ≡ [])
 TakesRow old new (Some row) = old ≡ row ∷ new

@@ -53,11 +53,11 @@ impl CertRows {
         }
     }
 
-    /// Puts a row behind all others.
+    /// Puts a row after all others.
     ///
     /// # Errors
     ///
-    /// No memory; the rows stay as they were.
+    /// Out of memory; the rows stay as they were.
     pub fn push(&mut self, row: &Row) -> Result<(), AllocError>
         ensures { OnOk result (self.new ≡ self.old ++ row_as row.now ∷ []) }
     {

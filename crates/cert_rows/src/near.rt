@@ -51,7 +51,7 @@ fn cap(number: u8, most: u8) -> u8
     if most < number { most } else { number }
 }
 
-/// The prefix of so many bits at the first address of the upper half of the region above.
+/// The prefix of `len` bits at the first address of the upper half of the region above.
 fn next_leaf(prefix: &Prefix, len: u8) -> Prefix
     ensures { prefix_as result ≡ next_leaf (prefix_as prefix.now) len }
 {
@@ -78,7 +78,7 @@ impl Near {
         kind: NearKind::Whole,
     };
 
-    /// What doesn't follow of a row from the prefix of the row before; none where the row doesn't follow from it.
+    /// What doesn't follow of a row from the prefix of the row before; none if the row doesn't follow from it.
     pub(crate) fn of(last: &Prefix, row: &Row) -> Option<Near>
         ensures { IfSome result (λ near. near_row near (prefix_as last.now)
             ≡ Some (row_as row.now)) }

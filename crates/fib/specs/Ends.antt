@@ -20,7 +20,7 @@ use Rattle.fib_due.specs.Untold.{FitsSome}
 abbrev pub words_left : {X Z : Type 0} → IntoIter X Z → List X
 words_left words = take (into_iter_len words) (into_iter_items words)
 
--- what inputs, output and standard error tell at a moment: what each name holds, how many of its reads failed and which reads were made, and what was written and how many writes failed
+-- what inputs, output and standard error say at a moment: what each name holds, how many of its reads failed and which reads were made, and what was written and how many writes failed
 pub record Moment : Type 0 where
   pub content : List ℕ → Option (List ℕ)
   pub read_faults : List ℕ → ℕ
@@ -41,7 +41,7 @@ moment content read_faults made out out_faults err err_faults = record {
   reads = made;
 }
 
--- All that the top call says of these words, between two moments. The outcome is the due one, but for faults and want of memory, and it is one of these words. Faults have their causes, and where a count rose the outcome says so; where none did, the due outcome comes or memory ran out. The inputs that the words name are read one after another, each in order. No content changes, output has the text due, and standard error has the outcome's line. At Done of a run the output has a text more to which a check says yes, and at Done of a checkpoint one more, which restores what was said.
+-- All that the top call says of these words, between two moments. The outcome is the due one, but for faults and running out of memory, and it is one of these words. Faults have their causes, and if a count rose the outcome says so; if none did, the due outcome comes or memory ran out. The inputs that the words name are read one after another, each in order. No content changes, output has the text due, and standard error has the outcome's line. At Done of a run the output has a text more to which a check says yes, and at Done of a checkpoint one more, which restores what was said.
 pub record Ends (words : List (List ℕ)) (old new : Moment) (outcome : Outcome) : Type 0 where
   pub exact : Meets (due words old.content) outcome
   pub own : IsOf (command_of words) outcome
@@ -62,7 +62,7 @@ pub record Ends (words : List (List ℕ)) (old new : Moment) (outcome : Outcome)
   pub due_saves : outcome ≡ Done → IfSaved (due words old.content) Restores
   pub reads : Makes old.reads new.reads (ReadsAt old.content (command_of words) outcome)
 
--- So it ends of a command line: with this outcome of some words, which are those of the command line, where it tells them.
+-- So it ends of a command line: with this outcome of some words, which are those of the command line, if it says them.
 pub record EndsOf (told : Option (List (List ℕ))) (old new : Moment) (outcome : Outcome) : Type 0 where
   pub words : List (List ℕ)
   pub are_told : IfSome told (λ given. words ≡ given)

@@ -15,7 +15,7 @@ use std::io::{self, ErrorKind};
 use std::process::ExitCode;
 use std::rt::Env;
 
-/// The words of a command line. `words` is what they are, if the type tells it: none, if one of them isn't UTF-8.
+/// The words of a command line. `words` is what they are, if the type says it: none, if one of them isn't UTF-8.
 trait CommandLine {
     ghost words: { Self → Option (List (List ℕ)) };
 
@@ -27,7 +27,7 @@ trait CommandLine {
             (λ given. (error_kind e ≡ ErrorKind.OutOfMemory) ⊎ (given ≡ []))) };
 }
 
-/// The command line of a runtime. It tells no words.
+/// The command line of a runtime. It doesn't say which words.
 #[derive(Drop)]
 struct SystemWords<'r, R: Env + Alloc<A = Global>> {
     rt: &'r R,
@@ -64,7 +64,7 @@ fn words_of<C: CommandLine>(alloc: Global, line: &C) -> Result<Vec<String>, Allo
     }
 }
 
-/// Does what the command line says. Where memory runs out for its words, that is the outcome.
+/// Does what the command line says. If memory runs out for its words, that is the outcome.
 fn outcome_of<C: CommandLine, I: Inputs, O: Sink, E: Sink>(
     alloc: Global,
     line: &C,

@@ -19,7 +19,7 @@ groups_of bits = map (group_of bits) (0 ∷ 1 ∷ 2 ∷ 3 ∷ 4 ∷ 5 ∷ 6 ∷ 
 unfoldable pub group_bits : List ℕ → List Bool
 group_bits groups = flat_map (bits_of 16) groups
 
--- so many groups from a place on are zero
+-- n groups from a place on are zero
 abbrev pub IsZeroRun : List ℕ → ℕ → ℕ → Type 0
 IsZeroRun groups place len = (place + len ≤ length groups) × (take len (drop place groups) ≡ replicate len 0)
 
@@ -42,7 +42,7 @@ ipv6_text groups = if nat_lt 1 (longest_zero_run groups).1 then shortened groups
 abbrev pub group_in : List ℕ → Option ℕ
 group_in text = if nat_le 1 (length text) && nat_le (length text) 4 && list_all (λ c. is_digit c 16) text then Some (digits_value 16 text) else None
 
--- the values, where all are there
+-- the values, if all are there
 abbrev pub all_there : List (Option ℕ) → Option (List ℕ)
 all_there [] = Some []
 all_there (None ∷ more) = None

@@ -21,7 +21,7 @@ abbrev pub hop_at : List Address → ℕ → Option Address
 hop_at hops zero = None
 hop_at hops (suc n) = slice_get hops n
 
--- the hops with this one, at the end where it is new
+-- the hops with this one, at the end if it is new
 abbrev pub with_hop : List Address → Address → List Address
 with_hop hops a = cond (list_any (same_address a) hops) hops (hops ++ a ∷ [])
 

@@ -1,4 +1,4 @@
--- The code's order of prefixes is total, and doesn't tell them apart exactly where they are equal.
+-- The code's order of prefixes is total, and doesn't tell them apart exactly if they are equal.
 use Rattle.std.proofs.Common.{◌≡◌, Bool, true, false, refl, sym, ap, ◌∙◌}
 use Rattle.std.specs.Prelude.{◌&&◌, ◌==◌}
 use Rattle.std.specs.Cmp.{IsTotalOrder, unsigned_tied}

@@ -1,4 +1,4 @@
--- Entries behind entries.
+-- Entries after entries.
 use Rattle.std.specs.Prelude.{◌≡◌, ◌++◌, []}
 use Rattle.std.proofs.Common.{ap, sym, ◌∙◌, append_assoc}
 use Rattle.std.proofs.lemmas.List.{append-nil}

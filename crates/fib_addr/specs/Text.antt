@@ -61,7 +61,7 @@ ipv6_in text = option_map (λ groups. record { family = V6; bits = group_bits gr
 abbrev pub address_in : List ℕ → Option Address
 address_in text = if list_any is_dot text then ipv4_in text else ipv6_in text
 
--- the prefix of an address and its length, where the bits past the length are 0
+-- the prefix of an address and its length, if the bits past the length are 0
 abbrev pub prefix_from : Address → ℕ → Option Prefix
 prefix_from a len = if list_any (λ b. b) (drop len a.bits) then None else Some (first_bits len a)
 

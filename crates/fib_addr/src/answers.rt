@@ -13,9 +13,9 @@ use crate::entry::Hop;
 use crate::prefix::Prefix;
 use table_model::Family;
 
-/// A table of one family, which tells whether the addresses of a prefix all get one answer.
+/// A table of one family, which says whether the addresses of a prefix all get one answer.
 ///
-/// Contracts see the entries, whose prefixes are distinct; an address gets what longest match among them gives, hop 0 where there
+/// Contracts see the entries, whose prefixes are distinct; an address gets what longest match among them gives, hop 0 if there
 /// is none.
 pub trait Answers {
     ghost entries: { Self → Entries };
@@ -26,8 +26,8 @@ pub trait Answers {
     fn family(&self) -> Family
         ensures { result ≡ of self.now };
 
-    /// The hop that every address of the prefix gets, `Hop::NONE` where none gets one; or `None` where two of its addresses
-    /// get different hops.
+    /// The hop that every address of the prefix gets, `Hop::NONE` if none gets one; or `None` if two of its addresses get
+    /// different hops.
     fn uniform(&self, prefix: &Prefix) -> Option<Hop>
         requires { prefix.now.family ≡ of self.now }
         ensures one { IfSome result (λ hop. AllGet (entries self.now)

@@ -29,7 +29,7 @@ pub struct Entry {
 ///
 /// # Errors
 ///
-/// No memory.
+/// Out of memory.
 pub fn push_entry(prefix: Prefix, hop: Option<u16>, out: &mut Vec<Entry>) -> Result<(), AllocError>
     ensures { OnOk result (map entry_as out.new.items ≡ map entry_as out.old.items
         ++ map (λ h. (prefix_as prefix, h)) (option_to_list hop)) }

@@ -40,7 +40,7 @@ impl Model for HopSet {
 /// Two sets put together.
 #[derive(Drop)]
 pub struct Joint {
-    /// The hops that both have, or where there are none, the hops of either.
+    /// The hops that both have or, if there are none, the hops of either.
     pub set: HopSet,
     /// Whether they have no hop in common.
     pub apart: bool,
@@ -125,7 +125,7 @@ impl HopSet {
     ///
     /// # Errors
     ///
-    /// No memory.
+    /// Out of memory.
     pub fn joint(alloc: Global, low: &HopSet, high: &HopSet) -> Result<Joint, AllocError>
         ensures hops { IfOk result (λ j. SameHops j.set (joint low.now high.now)) }
         ensures apart { IfOk result (λ j. IsTrue j.apart ↔ (common low.now high.now ≡ [])) }
@@ -145,7 +145,7 @@ impl HopSet {
     ///
     /// # Errors
     ///
-    /// No memory.
+    /// Out of memory.
     pub fn copied(&self, alloc: Global) -> Result<HopSet, AllocError>
         ensures { IfOk result (λ s. s ≡ self.now) }
     {
@@ -189,8 +189,8 @@ impl HopSet {
         }
     }
 
-    /// The hop of the entry of a region with this set, if it gets one: none where what it inherits is in the set, else the old
-    /// entry's hop where that is in the set, else the least.
+    /// The hop of the entry of a region with this set, if it gets one: none if what it inherits is in the set, else the old
+    /// entry's hop if that is in the set, else the least.
     pub fn own(&self, old: Option<u16>, inherited: u16) -> Option<u16>
         ensures { result ≡ own self.now old inherited }
     {

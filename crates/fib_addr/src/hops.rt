@@ -1,7 +1,7 @@
 //! The numbers of next hops.
 //!
 //! Hops are numbered 1, 2, .. in the order in which they are first brought, and keep their number for good. They are kept
-//! in a hash set in that order: a hop's number is its place there from 1. Asking costs one look-up, and so does numbering a
+//! in a hash set in that order: a hop's number is its place there from 1. Asking costs one lookup, and so does numbering a
 //! hop that is held; a new one costs two. A dump names few hops, each of them for many routes, so a hop's number is first
 //! guessed by a few bits of its address: a guess is tested, and costs half of what the set does.
 
@@ -113,7 +113,7 @@ impl HopTable {
         }
     }
 
-    /// Makes room for the next hop, so that it is numbered without memory. The hops stay as they are, and where there is
+    /// Makes room for the next hop, so that it is numbered without memory. The hops stay as they are, and if there is
     /// room already it takes none.
     pub fn room(&mut self) -> Result<(), AllocError>
         ensures list { self.new.list ≡ self.old.list }
@@ -124,8 +124,8 @@ impl HopTable {
         self.hops.reserve(1)
     }
 
-    /// The hop's number: its own if it is held, else the next. An `Err` changes no hop; `HopsFull` comes exactly where the
-    /// hop is new and 65,534 are held, and a held hop always has its number and changes nothing. Where there is room for one
+    /// The hop's number: its own if it is held, else the next. An `Err` changes no hop; `HopsFull` comes exactly if the
+    /// hop is new and 65,534 are held, and a held hop always has its number and changes nothing. If there is room for one
     /// more (`room`), `NoMemory` doesn't come.
     pub fn number(&mut self, addr: &Addr) -> Result<Hop, HopError>
         ensures number { IfOk result (λ hop. number_of self.new.list (addr_as addr.now)
@@ -191,7 +191,7 @@ impl HopTable {
         Ok(hop_at_place(self.hops.len()))
     }
 
-    /// The hop's number, `None` exactly where it isn't held. `addr` of the number is the hop.
+    /// The hop's number, `None` exactly if it isn't held. `addr` of the number is the hop.
     pub fn find(&self, addr: &Addr) -> Option<Hop>
         ensures number { option_map (λ hop. hop.0) result ≡ number_of self.now.list
             (addr_as addr.now) }
@@ -204,7 +204,7 @@ impl HopTable {
         Some(hop_at_place(place))
     }
 
-    /// The hop of a number, `None` exactly where no held hop has it: `Hop::NONE` is no hop's, and each number from 1 to that of
+    /// The hop of a number, `None` exactly if no held hop has it: `Hop::NONE` is no hop's, and each number from 1 to that of
     /// the hops held is one's. `find` of the hop is the number, so different numbers have different hops.
     pub fn addr(&self, hop: Hop) -> Option<Addr>
         ensures addr { option_map addr_as result ≡ hop_at self.now.list hop.0 }

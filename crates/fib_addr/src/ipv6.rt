@@ -52,7 +52,7 @@ fn leading_zeros(group: u16) -> usize
     }
 }
 
-/// Puts a group without leading zeros so that it ends at a place of the text, and gives where it starts.
+/// Puts a group without leading zeros so that it ends at a place of the text, and returns where it starts.
 fn put_group(out: &mut [u8; MOST_TEXT], end: usize, group: u16) -> usize
     requires fits { 4 ≤ end }
     requires within { end ≤ MOST_TEXT }
@@ -69,7 +69,7 @@ fn put_group(out: &mut [u8; MOST_TEXT], end: usize, group: u16) -> usize
     put(out, end, &digits[leading_zeros(group)..])
 }
 
-/// Puts groups with colons between them so that they end at a place of the text, and gives where they start.
+/// Puts groups with colons between them so that they end at a place of the text, and returns where they start.
 fn put_groups(out: &mut [u8; MOST_TEXT], end: usize, groups: &[u16]) -> usize
     requires fits { 5 * length groups.now - 1 ≤ end }
     requires within { end ≤ MOST_TEXT }
@@ -106,7 +106,7 @@ fn longest_zero_run(groups: &[u16]) -> (usize, usize)
     (place, longest)
 }
 
-/// Puts the address of these bits so that it ends at a place of the text, and gives where it starts. A run of at least two zero
+/// Puts the address of these bits so that it ends at a place of the text, and returns where it starts. A run of at least two zero
 /// groups, the longest, is written `::`.
 pub(crate) fn put_ipv6(out: &mut [u8; MOST_TEXT], end: usize, bits: u128) -> usize
     requires fits { 39 ≤ end }

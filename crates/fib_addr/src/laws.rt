@@ -43,7 +43,7 @@ pub fn order_law()
         ≡ prefix_cmp (prefix_as p) (prefix_as q) }
 {}
 
-/// Of n hops each number from 1 to n is a hop's. The hop of a hop's number is that hop, and where no hop stands twice, the number
+/// Of n hops each number from 1 to n is a hop's. The hop of a hop's number is that hop, and if no hop stands twice, the number
 /// of a number's hop is that number, so different numbers have different hops. No hop stands twice as more are numbered.
 pub fn hops_law()
     ensures there { (hops : List Address) (n : ℕ) → 1 ≤ n → n ≤ length hops
@@ -56,7 +56,7 @@ pub fn hops_law()
         → IsDistinct same_address (fold with_hop hops used) }
 {}
 
-/// A prefix gets one hop exactly where both its halves get it; it gets one hop at most, and none where two of its addresses
+/// A prefix gets one hop exactly if both its halves get it; it gets one hop at most, and none if two of its addresses
 /// differ.
 pub fn uniform_law()
     ensures halves { (L : Entries) (p : Prefix) (h : ℕ) → AllGet L p h

@@ -33,8 +33,8 @@ fn common_hops(alloc: Global, low: &[u16], high: &[u16]) -> Result<Row, AllocErr
     Ok(hops)
 }
 
-/// The hops that are in both rows, or where there are none, those of either; and whether there are none. A row is read once:
-/// where the first common hop is met, what was collected before it is left, and the rest is read for common hops alone.
+/// The hops that are in both rows or, if there are none, those of either; and whether there are none. A row is read once:
+/// at the first common hop, what was collected before it is dropped, and the rest is read for common hops alone.
 pub(crate) fn joint_hops(
     alloc: Global,
     low: &[u16],

@@ -65,7 +65,7 @@ impl PartialOrd for Prefix {
     }
 }
 
-/// The bits but for so many of the lowest ones.
+/// The bits without the lowest `unused` ones.
 fn upper(bits: u128, unused: u8) -> u128
     requires { unused ≤ 128 }
     ensures { result ≡ bits / 2 ^ unused }
@@ -73,7 +73,7 @@ fn upper(bits: u128, unused: u8) -> u128
     bits.unbounded_shr(u32::from(unused))
 }
 
-/// The bits with so many of the lowest ones cleared.
+/// The bits with the lowest `unused` ones cleared.
 fn clear_low(bits: u128, unused: u8) -> u128
     requires { unused ≤ 128 }
     ensures { result ≡ bits / 2 ^ unused * 2 ^ unused }
@@ -81,7 +81,7 @@ fn clear_low(bits: u128, unused: u8) -> u128
     upper(bits, unused).unbounded_shl(u32::from(unused))
 }
 
-/// The first `len` bits of octets, as the first of so many.
+/// The first `len` bits of octets, as the first of `width` bits.
 fn front_bits(octets: &[u8], len: u8, width: u8) -> u128
     requires fits { len ≤ width }
     requires wide { width ≤ 128 }

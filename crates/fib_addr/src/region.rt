@@ -13,8 +13,8 @@ pub trait Region: Drop {
 
     ghost answers: { Self → List Bool → ℕ };
 
-    /// The hop that every address of the region gets, `Hop::NONE` where none gets one; or `None` where two of its addresses
-    /// get different hops.
+    /// The hop that every address of the region gets, `Hop::NONE` if none gets one; or `None` if two of its addresses get
+    /// different hops.
     fn only(&self) -> Option<Hop>
         ensures one { IfSome result (λ hop. one_answer (bits self.now) (answers self.now)
             ≡ Some hop.0) }

@@ -7,7 +7,7 @@ ghost use Rattle.table_model.specs.Entries.{Entries};
 ghost use Rattle.table_model.specs.Uniform.{AllGet, TwoDiffer};
 ghost use Rattle.fib_addr.specs.Answers.{one_answer, part, answers_in, bits_in, Differ};
 
-/// A region has one answer exactly where all its addresses get it, and none exactly where two of them get different ones.
+/// A region has one answer exactly if all its addresses get it, and none exactly if two of them get different ones.
 pub fn one_answer_law()
     ensures one { (d : ℕ) (f : List Bool → ℕ) (h : ℕ)
         → (one_answer d f ≡ Some h) ↔ ((a : List Bool) → length a ≡ d → f a ≡ h) }
@@ -20,7 +20,7 @@ pub fn part_law()
         → one_answer d f ≡ Some h → one_answer n (part p f) ≡ Some h }
 {}
 
-/// A prefix has one answer where all its addresses get it by longest match, and none where two get different ones.
+/// A prefix has one answer if all its addresses get it by longest match, and none if two get different ones.
 pub fn table_law()
     ensures one { (L : Entries) (p : Prefix) (h : ℕ) → IsPrefix p → AllGet L p h
         → one_answer (bits_in p) (answers_in L p) ≡ Some h }

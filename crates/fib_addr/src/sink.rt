@@ -17,11 +17,11 @@ pub trait EntrySink {
 
     ghost takes: { Self → Entries → Self → Type 0 };
 
-    /// Takes an entry, behind those that it took.
+    /// Takes an entry, after those that it took.
     ///
     /// # Errors
     ///
-    /// No memory; then nothing is said of what it holds.
+    /// Out of memory; then nothing is said of what it holds.
     fn put(&mut self, entry: Entry) -> Result<(), AllocError>
         requires { ready self.old }
         ensures ready { OnOk result (ready self.new) }
@@ -49,11 +49,11 @@ impl EntrySink for Vec<Entry> {
     }
 }
 
-/// Hands on the entry of a prefix with this hop, if it has one.
+/// Gives the sink the entry of a prefix with this hop, if it has one.
 ///
 /// # Errors
 ///
-/// No memory.
+/// Out of memory.
 pub fn emit_entry<S: EntrySink>(
     prefix: &Prefix,
     hop: Option<u16>,

@@ -21,7 +21,7 @@ impl<L: Ledger> Model for Steps<L> {
 }
 
 impl<L: Ledger> Steps<L> {
-    /// A count from 0, of a ledger that no type stands for yet: a function over `L` is handed a `Blank` and called with
+    /// A count from 0, of a ledger that no type stands for yet: a function over `L` gets a `Blank` and called with
     /// `Brand` for `L`.
     pub fn start(blank: Blank) -> Steps<L>
         requires name { blank.name ≡ L.name }

@@ -22,7 +22,7 @@ pub const MOST_TEXT: usize = 43;
 
 /// Reads an address, from its first octet to its last: an IPv4 address as `read_ipv4`; an IPv6 address as eight groups of one
 /// to four hexadecimal digits with colons between them, or as at most seven with one `::` for those that are missing
-/// (RFC 4291, section 2.2), without a dotted part or a zone. `None` exactly where the text is anything else.
+/// (RFC 4291, section 2.2), without a dotted part or a zone. `None` exactly if the text is anything else.
 pub fn read_addr(text: &[u8]) -> Option<Addr>
     ensures { option_map addr_as result ≡ address_in text.now }
 {
@@ -33,7 +33,7 @@ pub fn read_addr(text: &[u8]) -> Option<Addr>
     }
 }
 
-/// The number with one more decimal digit at its end. `None` exactly where the octet is no digit, or the number isn't below
+/// The number with one more decimal digit at its end. `None` exactly if the octet is no digit, or the number isn't below
 /// 2^64.
 fn with_digit(number: u64, octet: u8) -> Option<u64>
     ensures more { IfSome result (λ n. (digit_value octet < 10)
@@ -47,7 +47,7 @@ fn with_digit(number: u64, octet: u8) -> Option<u64>
     }
 }
 
-/// The number of decimal digits, 0 of none. `None` exactly where an octet is no digit, or the number isn't below 2^64.
+/// The number of decimal digits, 0 of none. `None` exactly if an octet is no digit, or the number isn't below 2^64.
 fn read_digits(text: &[u8]) -> Option<u64>
     ensures some { IfSome result (λ n. AllDigits 10 text.now × (n ≡ digits_value 10 text.now)) }
     ensures none { IfNone result (AllDigits 10 text.now → 2 ^ 64 ≤ digits_value 10 text.now) }
@@ -60,7 +60,7 @@ fn read_digits(text: &[u8]) -> Option<u64>
 }
 
 /// Reads a decimal number of at most `most`, from the text's first octet to its last, without a sign or leading zeros. `None`
-/// exactly where the text is anything else.
+/// exactly if the text is anything else.
 pub fn read_number(text: &[u8], most: u64) -> Option<u64>
     ensures value { result ≡ number_below (most + 1) text.now }
     ensures fits { IfSome result (λ number. number ≤ most) }
@@ -82,7 +82,7 @@ fn dot_at(text: &[u8]) -> Option<usize>
     text.iter().position(|b| *b == b'.')
 }
 
-/// Reads a decimal number from 0 to 255 and the dot after it, and gives what stands after the dot.
+/// Reads a decimal number from 0 to 255 and the dot after it, and returns what stands after the dot.
 fn read_octet(text: &[u8]) -> Option<(u8, &[u8])>
     ensures some { IfSome result (λ r. text.now ≡ decimal r.0 ++ 46 ∷ r.1.now) }
     ensures fits { IfSome result (λ r. r.0 < 256) }
@@ -95,7 +95,7 @@ fn read_octet(text: &[u8]) -> Option<(u8, &[u8])>
 }
 
 /// Reads an IPv4 address alone, from its first octet to its last: four decimal numbers from 0 to 255 without leading zeros,
-/// with dots between them (`IPv4address` of RFC 3986, section 3.2.2). `None` exactly where the text is anything else.
+/// with dots between them (`IPv4address` of RFC 3986, section 3.2.2). `None` exactly if the text is anything else.
 pub fn read_ipv4(text: &[u8]) -> Option<Addr>
     ensures { option_map addr_as result ≡ ipv4_in text.now }
 {
@@ -114,7 +114,7 @@ fn slash_at(text: &[u8]) -> Option<usize>
 }
 
 /// Reads a prefix, from its first octet to its last: an address, a slash, and a decimal number without leading zeros of at
-/// most the address's width (RFC 4632, section 3.1; RFC 4291, section 2.3). `None` exactly where the text is anything else,
+/// most the address's width (RFC 4632, section 3.1; RFC 4291, section 2.3). `None` exactly if the text is anything else,
 /// or a bit past the length isn't 0.
 pub fn read_prefix(text: &[u8]) -> Option<Prefix>
     ensures { option_map prefix_as result ≡ prefix_in text.now }
@@ -126,7 +126,7 @@ pub fn read_prefix(text: &[u8]) -> Option<Prefix>
     (prefix.first_addr() == addr).then_some(prefix)
 }
 
-/// Puts a piece so that it ends at a place of the text, and gives where it starts.
+/// Puts a piece so that it ends at a place of the text, and returns where it starts.
 pub(crate) fn put(out: &mut [u8; MOST_TEXT], end: usize, piece: &[u8]) -> usize
     requires fits { length piece.now ≤ end }
     requires within { end ≤ MOST_TEXT }
@@ -138,7 +138,7 @@ pub(crate) fn put(out: &mut [u8; MOST_TEXT], end: usize, piece: &[u8]) -> usize
     start
 }
 
-/// Puts a number of at most three digits so that it ends at a place of the text, and gives where it starts.
+/// Puts a number of at most three digits so that it ends at a place of the text, and returns where it starts.
 fn put_octet(out: &mut [u8; MOST_TEXT], end: usize, octet: u8) -> usize
     requires fits { 3 ≤ end }
     requires within { end ≤ MOST_TEXT }
@@ -149,7 +149,7 @@ fn put_octet(out: &mut [u8; MOST_TEXT], end: usize, octet: u8) -> usize
     write_digits(u64::from(octet), out, end)
 }
 
-/// Puts such a number with a dot behind it.
+/// Puts such a number with a dot after it.
 fn put_octet_dot(out: &mut [u8; MOST_TEXT], end: usize, octet: u8) -> usize
     requires fits { 4 ≤ end }
     requires within { end ≤ MOST_TEXT }
@@ -161,7 +161,7 @@ fn put_octet_dot(out: &mut [u8; MOST_TEXT], end: usize, octet: u8) -> usize
     put_octet(out, dot, octet)
 }
 
-/// Puts four octets as decimal numbers, with dots between them, so that they end at a place of the text, and gives where they
+/// Puts four octets as decimal numbers, with dots between them, so that they end at a place of the text, and returns where they
 /// start.
 fn put_ipv4(out: &mut [u8; MOST_TEXT], end: usize, octets: [u8; 4]) -> usize
     requires fits { 15 ≤ end }
@@ -176,7 +176,7 @@ fn put_ipv4(out: &mut [u8; MOST_TEXT], end: usize, octets: [u8; 4]) -> usize
     put_octet_dot(out, at, a)
 }
 
-/// Puts an address so that it ends at a place of the text, and gives where it starts.
+/// Puts an address so that it ends at a place of the text, and returns where it starts.
 fn put_addr(out: &mut [u8; MOST_TEXT], end: usize, addr: &Addr) -> usize
     requires fits { 39 ≤ end }
     requires within { end ≤ MOST_TEXT }

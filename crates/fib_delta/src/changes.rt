@@ -122,11 +122,11 @@ fn merge(alloc: Global, old: &[Entry], new: &[Entry]) -> Result<Vec<Change>, All
 }
 
 /// The changes between two tables: one for each prefix at which they differ, in the order of prefixes. It costs their lengths
-/// where both stand in that order; else each is put in order first.
+/// if both stand in that order; else each is put in order first.
 ///
 /// # Errors
 ///
-/// No memory.
+/// Out of memory.
 pub fn between(alloc: Global, old: &[Entry], new: &[Entry]) -> Result<Vec<Change>, AllocError>
     requires old { AreEntries (map entry_as old.now) }
     requires new { AreEntries (map entry_as new.now) }

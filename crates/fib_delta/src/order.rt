@@ -28,8 +28,8 @@ pub fn put_in_steady_order(changes: &mut [Change])
     changes.sort_unstable_by(|a, b| compare(a, b));
 }
 
-/// Puts an event's changes in steady order: the first so many, which are those of its repair, and then the others, which are
-/// those of the snapshot that follows it, each in itself. Both stand in the order of prefixes. It takes no memory.
+/// Puts an event's changes in steady order: the first `repaired` ones, which are those of its repair, and then the others, which
+/// are those of the snapshot that follows it, each in itself. Both stand in the order of prefixes. It takes no memory.
 pub fn put_event_in_steady_order(changes: &mut [Change], repaired: usize)
     requires { repaired ≤ length changes.old }
     ensures same { length changes.new ≡ length changes.old }

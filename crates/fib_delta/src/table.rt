@@ -1,6 +1,6 @@
 //! The table of a router, which takes changes.
 //!
-//! Its entries stand in a map by prefix: a change costs one look-up, an addition two.
+//! Its entries stand in a map by prefix: a change costs one lookup, an addition two.
 
 ghost use Rattle.std.specs.Prelude.{◌≡◌, ◌↔◌, [], map, true, IfOk, OnOk, OnErr, IsOk, Some, IsErrOf};
 ghost use Rattle.std.specs.Map.{remove_entry};
@@ -75,11 +75,11 @@ impl Table {
         self.held.contains_key(prefix)
     }
 
-    /// Sets the entry's hop at its prefix, and adds the entry where there is none.
+    /// Sets the entry's hop at its prefix, and adds the entry if there is none.
     ///
     /// # Errors
     ///
-    /// No memory, which comes only where there is none; then nothing has changed.
+    /// Out of memory, only if none is there; then nothing has changed.
     pub(crate) fn put(&mut self, entry: &Entry) -> Result<(), AllocError>
         ensures ok { OnOk result (self.new ≡ with_entry self.old (entry_as entry.now)) }
         ensures err { OnErr result (self.new ≡ self.old) }
@@ -96,12 +96,12 @@ impl Table {
         self.held.remove(prefix);
     }
 
-    /// Makes a change: adds an entry where there is none at its prefix, or replaces or removes one that is there.
+    /// Makes a change: adds an entry if there is none at its prefix, or replaces or removes one that is there.
     ///
     /// # Errors
     ///
-    /// `NotThere` exactly where it is to replace or to remove what isn't there, `Already` exactly where it is to add what is
-    /// there, or no memory. Then the table is as it was.
+    /// `NotThere` exactly if it is to replace or to remove what isn't there, `Already` exactly if it is to add what is
+    /// there, or out of memory. Then the table is as it was.
     pub fn apply(&mut self, change: &Change) -> Result<(), ApplyError>
         ensures ok { OnOk result (after_change (change_as change.now) self.old ≡ Some self.new) }
         ensures err { OnErr result (self.new ≡ self.old) }
@@ -135,7 +135,7 @@ impl Table {
     ///
     /// # Errors
     ///
-    /// No memory.
+    /// Out of memory.
     pub fn entries(&self) -> Result<Vec<Entry>, AllocError>
         ensures order { InPlace self.now }
         ensures entries { IfOk result (λ v. map entry_as v.items ≡ self.now) }

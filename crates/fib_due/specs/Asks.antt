@@ -7,7 +7,7 @@ use Rattle.table_model.specs.Address.{Address}
 use Rattle.fib_addr.specs.Text.{address_in}
 use Rattle.printed_text.specs.Texts.{lines_of, line_texts}
 
--- the address in front of more, or the number of its line where it is none
+-- the address before more, or the number of its line if it is none
 abbrev pub address_or : ℕ → Option Address → Result (List Address) ℕ → Result (List Address) ℕ
 address_or n None more = Err n
 address_or n (Some a) more = more >>= λ addresses. Ok (a ∷ addresses)

@@ -68,11 +68,11 @@ input_at content which name = do
 unfoldable pub asks_from : List ℕ → Result (List Address) Stop
 asks_from octets = if is_small octets then lined all.Asks (asks_in octets) else lined_past all.Asks (ended_asks_in (octets_read octets))
 
--- the same of an input, where it is told
+-- the same of an input, if it is known
 abbrev pub told_asks : Option (List ℕ) → Result (List Address) Stop
 told_asks content = told_content content >>= asks_from
 
--- the addresses that are asked for, none where no asks are named
+-- the addresses that are asked for, none if no asks are named
 unfoldable pub asks_at : (List ℕ → Option (List ℕ)) → Option (List ℕ) → Result (List Address) Stop
 asks_at content None = Ok []
 asks_at content (Some name) = told_asks (content name)
@@ -83,7 +83,7 @@ vrps_in_input content name = do
   octets ← input_at content all.Vrps name
   listed_vrps (vrps_in octets)
 
--- the list of VRPs that announcements are judged by, empty where none is named
+-- the list of VRPs that announcements are judged by, empty if none is named
 unfoldable pub vrps_at : (List ℕ → Option (List ℕ)) → Option (List ℕ) → Result (List Vrp) Stop
 vrps_at content None = Ok []
 vrps_at content (Some name) = vrps_in_input content name
@@ -106,7 +106,7 @@ abbrev pub read_part : Result Progress Stopped → Progress
 read_part (Ok read) = read
 read_part (Err stopped) = stopped.read
 
--- the elementary events of what was read, after earlier ones, where each announcement that is Invalid by a list of VRPs is its withdrawal (RFC 6811, 3)
+-- the elementary events of what was read, after earlier ones, with each announcement that is Invalid by a list of VRPs as its withdrawal (RFC 6811, 3)
 abbrev pub elems_in : List Vrp → List Elem → Progress → List Elem
 elems_in vrps before read = elems_after (after_elems [] before) (left_of vrps read.events)
 
@@ -162,7 +162,7 @@ stepping_at content named = do
   script ← script_at content named.script
   with_world script (world_at content named)
 
--- ---- what is told
+-- ---- what is reported
 
 -- each address with its answer, which is longest match among the routes, and with how many of its regions of s, s + 6, s + 12, .. bits hold two different answers
 abbrev pub answers_to : ℕ → Entries → List Address → List Answer
@@ -187,20 +187,20 @@ counts load updates routes kept needs = record {
   treated = load.treated + updates.treated;
 }
 
--- the kept table after the last event, with these numbers of hops, the fewest changes at each event if they are asked for, and a snapshot after each so many elementary events of the updates; 0 is never
+-- the kept table after the last event, with these numbers of hops, the fewest changes at each event if they are asked for, and a snapshot after every n elementary events of the updates; 0 is never
 abbrev pub kept_of : Bool → ℕ → List Address → List Elem → List Elem → Entries
 kept_of fewest every hops load updates = table_of_run fewest every hops (after_elems [] load) updates
 
--- its changes as they are told, in steady order or in that of prefixes: those of the load, event 0, and those of each elementary event of the updates
+-- its changes as they are written, in steady order or in that of prefixes: those of the load, event 0, and those of each elementary event of the updates
 abbrev pub run_changes : Bool → Bool → ℕ → List Address → List Elem → List Elem → List (ℕ × Change)
 run_changes fewest steady every hops load updates = told_of_run fewest steady every hops (after_elems [] load) updates
 
--- the number of each elementary event of the updates that changes a chosen hop, with that of the changes it needs before a snapshot; told where the fewest changes are asked for
+-- the number of each elementary event of the updates that changes a chosen hop, with that of the changes it needs before a snapshot; written if the fewest changes are asked for
 abbrev pub run_moves : Bool → ℕ → List Address → List Elem → List Elem → List (ℕ × ℕ)
 run_moves false every hops load updates = []
 run_moves true every hops load updates = moves_of_run true every hops (after_elems [] load) updates
 
--- of these routes, and of a kept table, its changes and how many each event needs, with so many direct bits: the routes, the announcements that are Invalid, the changes, how many each event needs, each address with its answer, the table, the aggregate of the routes with the kept table as the old one, the certificate that it is least, and the counts
+-- of these routes, and of a kept table, its changes and how many each event needs, with n direct bits: the routes, the announcements that are Invalid, the changes, how many each event needs, each address with its answer, the table, the aggregate of the routes with the kept table as the old one, the certificate that it is least, and the counts
 abbrev pub run_of : ℕ → Entries → Entries → List (ℕ × Change) → List (ℕ × ℕ) → List Address → Feed → Feed → Told
 run_of s routes kept changes moves asks load updates = record {
   routes = routes;
@@ -214,7 +214,7 @@ run_of s routes kept changes moves asks load updates = record {
   report = counts load updates routes kept (needs_of s routes);
 }
 
--- what is to be printed: the rows, and the hops that their numbers stand for; and what they come from: the elementary events of the load and of the updates, how many of these each snapshot follows, whether each event makes the fewest changes, whether changes are told in steady order, and how large tries are
+-- what is to be printed: the rows, and the hops that their numbers stand for; and what they come from: the elementary events of the load and of the updates, how many of these each snapshot follows, whether each event makes the fewest changes, whether changes come in steady order, and how large tries are
 pub record Printed : Type 0 where
   pub told : Told
   pub hops : List Address
@@ -279,7 +279,7 @@ used_at content name = do
   octets ← input_at content all.Printed name
   rowed (printed_in octets)
 
--- the inputs that are made: so many routes and half as many updates, drawn from a seed
+-- the inputs that are made: n routes and half as many updates, drawn from a seed
 abbrev pub made_content : ℕ → ℕ → List ℕ → Option (List ℕ)
 made_content routes seed name =
     if bytes_eq (codes "dump") name then Some (dump_octets seed routes)
@@ -314,7 +314,8 @@ checked used = used >>= λ u. Ok (Checked u)
 abbrev pub made : Result Printed Stop → Result Output Stop
 made printed = printed >>= λ p. Ok (Made p)
 
--- A run in steps may print any run of its machine, so its inputs alone don't tell its text; but they tell what is refused.
+-- A run in steps may print any run of its machine, so its inputs alone don't determine its text. They do determine what is
+-- refused.
 abbrev pub stepped : Result Stepping Stop → Result Output Stop
 stepped stepping = stepping >>= λ s. Err Untold
 
@@ -352,7 +353,7 @@ claims_at content named = claimed (claimed_at content named.router named.printed
 
 -- ---- a checkpoint
 
--- the events of the updates, none where none are named
+-- the events of the updates, none if none are named
 unfoldable pub later_at : (List ℕ → Option (List ℕ)) → Option (List ℕ) → Result (List Event) Stop
 later_at content None = Ok []
 later_at content (Some name) = events_of Updates content name
@@ -431,7 +432,7 @@ output_text (Saved said) = saved (after_events [] said)
 output_text (Moved steady t) = router_text (moves_for steady t)
 output_text (Claimed c) = claim_text c.hops (claim_verdict c.claim)
 
--- a text, and what is wrong where it says so
+-- a text, and what is wrong if it says so
 pub record Reply : Type 0 where
   pub text : List ℕ
   pub wrong : Option Wrong

@@ -32,7 +32,7 @@ EndsBy (Some (Refuted fault)) outcome = (x : code.No) × (outcome ≡ CheckNo x)
 EndsBy (Some (Differs d)) outcome = (x : code_difference.Difference) × (outcome ≡ Differ x) × (difference_as x ≡ d)
 EndsBy (Some (MovesRefuted wrong)) outcome = (x : code_moves.WrongMoves) × (outcome ≡ MovesNo x) × (wrong_moves_as x ≡ wrong)
 
--- the outcome is the one that is due, if all that it rests on is told
+-- the outcome is the one that is due, if all that it rests on is known
 abbrev pub IsDue : Result Output Stop → Outcome → Type 0
 IsDue (Ok output) outcome = EndsBy (wrong_in output) outcome
 IsDue (Err Untold) outcome = Unit {0}
@@ -53,14 +53,14 @@ text_due (Err Untold) = None
 text_due (Err (Refused o)) = Some []
 text_due (Err (LongPath p n)) = Some []
 
--- The outcome is the one that is due. A fault of reading or want of memory may come in its place, and a fault of writing where nothing is refused.
+-- The outcome is the one that is due. A fault of reading or running out of memory may come in its place, and a fault of writing if nothing is refused.
 abbrev pub Meets : Result Output Stop → Outcome → Type 0
 Meets d NoMemory = Unit {0}
 Meets d ReadFault = Unit {0}
 Meets d WriteFault = IsAccepted d
 Meets d outcome = IsDue d outcome
 
--- out has the whole text at Done, where either check says no and where texts differ, a front of it at a fault of writing, and nothing new else
+-- out has the whole text at Done, if either check says no and if texts differ, its first n octets at a fault of writing, and nothing new else
 abbrev pub Writes : Option (List ℕ) → Option (List ℕ) → Option (List ℕ) → Outcome → Type 0
 Writes text old new Done = IfSome text (λ t. Adds old new t)
 Writes text old new (CheckNo x) = IfSome text (λ t. Adds old new t)
@@ -76,11 +76,11 @@ after (Err (LongPath p n)) names = []
 after (Err Untold) names = names
 after (Ok x) names = names
 
--- the dump, and then the updates where it is accepted and tries of its routes have room
+-- the dump, and then the updates if it is accepted and tries of its routes have room
 abbrev pub feeds_named : (List ℕ → Option (List ℕ)) → List Vrp → Named → List (List ℕ)
 feeds_named content vrps named = named.dump ∷ after (load_at (sizes_of named) content vrps named.dump) (option_to_list named.updates)
 
--- the same behind a list of VRPs, where it is accepted; whether the dump is may rest on it
+-- the same after a list of VRPs, if it is accepted; whether the dump is may rest on it
 abbrev pub feeds_behind : (List ℕ → Option (List ℕ)) → Named → Result (List Vrp) Stop → List (List ℕ)
 feeds_behind content named (Ok vrps) = feeds_named content vrps named
 feeds_behind content named (Err Untold) = named.dump ∷ option_to_list named.updates
@@ -91,11 +91,11 @@ feeds_behind content named (Err (LongPath p n)) = []
 abbrev pub reads_named : (List ℕ → Option (List ℕ)) → Named → List (List ℕ)
 reads_named content named = option_to_list named.asks ++ after (asks_at content named.asks) (option_to_list named.vrps ++ feeds_behind content named (vrps_at content named.vrps))
 
--- the script, the dump, and then the updates, each where those before it are accepted
+-- the script, the dump, and then the updates, each if those before it are accepted
 abbrev pub reads_steps : (List ℕ → Option (List ℕ)) → NamedSteps → List (List ℕ)
 reads_steps content named = named.script ∷ after (script_at content named.script) (named.dump ∷ after (load_at (steps_sizes named) content [] named.dump) (named.updates ∷ []))
 
--- the dump, and then the updates where it is accepted
+-- the dump, and then the updates if it is accepted
 abbrev pub reads_saved : (List ℕ → Option (List ℕ)) → NamedSave → List (List ℕ)
 reads_saved content named = named.dump ∷ after (events_of mrt.Dump content named.dump) (option_to_list named.updates)
 
@@ -124,7 +124,7 @@ abbrev pub ReadsBy : Type 0 → (List ℕ → ℕ) → (List ℕ → ℕ) → Ou
 ReadsBy cause before now ReadFault = cause
 ReadsBy cause before now outcome = now ≡ before
 
--- the same, where the cause is that the count of one of these names rose
+-- the same, if the cause is that the count of one of these names rose
 abbrev pub ReadsFrom : List (List ℕ) → (List ℕ → ℕ) → (List ℕ → ℕ) → Outcome → Type 0
 ReadsFrom names before now outcome = ReadsBy (OneRose names before now) before now outcome
 
@@ -141,7 +141,7 @@ ReadsName name before now result = ReadsFor (Rose (before name) (now name)) befo
 abbrev pub ReadsNames : {X : Type 0} → List (List ℕ) → (List ℕ → ℕ) → (List ℕ → ℕ) → Result X Outcome → Type 0
 ReadsNames names before now result = ReadsFor (OneRose names before now) before now result
 
--- a fault of writing comes only where the count of out rose, and any other outcome leaves it
+-- a fault of writing comes only if the count of out rose, and any other outcome leaves it
 abbrev pub WritesBy : ℕ → ℕ → Outcome → Type 0
 WritesBy before now WriteFault = Rose before now
 WritesBy before now outcome = now ≡ before
@@ -190,7 +190,7 @@ status_of (PathTooLong p n) = 11
 status_of (PeersFull peers) = 12
 status_of (Differ x) = 13
 
--- err has the line at its end, or its count rose and it has a front of the line
+-- err has the line at its end, or its count rose and it has the first n octets of the line
 abbrev pub LineTold : List ℕ → Option (List ℕ) → Option (List ℕ) → ℕ → ℕ → Type 0
 LineTold line old new before now = (Adds old new line × (now ≡ before)) ⊎ (AddsSome old new line × Rose before now)
 

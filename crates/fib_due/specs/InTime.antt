@@ -1,4 +1,4 @@
--- Behind which octets an input may be read on: those of which nothing is refused.
+-- After which octets an input may be read on: those of which nothing is refused.
 use Rattle.std.specs.Prelude.{◌≡◌, ℕ, List, [], Option, None, IfOk, IsOk}
 use Rattle.route_model.specs.Events.{Elem}
 use Rattle.printed_text.specs.Rows.{Vrp}
@@ -14,7 +14,7 @@ use Rattle.fib_due.specs.Asks.{ended_asks_in}
 use Rattle.fib_due.specs.Due.{elems_in, load_at, read_part, sizes_of, steps_sizes, vrps_at}
 use Rattle.fib_due.specs.Refusals.{stop_at, too_much}
 
--- asks may be read on behind these octets: each of their lines that has its line feed is empty or an address
+-- asks may be read on after these octets: each of their lines that has its line feed is empty or an address
 abbrev pub AsksMayGoOn : List ℕ → Type 0
 AsksMayGoOn octets = IsOk (ended_asks_in octets)
 
@@ -22,16 +22,16 @@ AsksMayGoOn octets = IsOk (ended_asks_in octets)
 abbrev pub AreTaken : Sizes → List Vrp → MrtInput → List Elem → List ℕ → Type 0
 AreTaken z vrps which before octets = stop_at (too_much which z) before (elems_in vrps before (read_part (input octets))) ≡ None
 
--- an input of records may be read on behind these octets: they break no rule but that their last record is cut (RFC 6396, 2), and each elementary event that they bring after earlier ones is taken
+-- an input of records may be read on after these octets: they break no rule but that their last record is cut (RFC 6396, 2), and each elementary event that they bring after earlier ones is taken
 pub record FeedMayGoOn (z : Sizes) (vrps : List Vrp) (which : MrtInput) (before : List Elem) (octets : List ℕ) : Type 0 where
   pub whole : MayGoOn octets
   pub taken : AreTaken z vrps which before octets
 
--- a list of VRPs, a printed text and a script may be read on behind any octets: they are judged once they were read to their end
+-- a list of VRPs, a printed text and a script may be read on after any octets: they are judged once they were read to their end
 abbrev pub TextMayGoOn : Which → List ℕ → Type 0
 TextMayGoOn which = λ octets. Unit {0}
 
--- each input of a run may be read on behind these octets; events are judged by the list of VRPs, where it is told, and those of the updates come after those of the dump, where it tells them
+-- each input of a run may be read on after these octets; events are judged by the list of VRPs, if it is known, and those of the updates come after those of the dump, if it says them
 abbrev pub RunMayGoOn : (List ℕ → Option (List ℕ)) → Named → Which → List ℕ → Type 0
 RunMayGoOn content named Asks = AsksMayGoOn
 RunMayGoOn content named Dump = λ octets. MayGoOn octets × IfOk (vrps_at content named.vrps) (λ vrps. AreTaken (sizes_of named) vrps mrt.Dump [] octets)

@@ -10,12 +10,12 @@ use Rattle.fib_due.specs.declared.outcome.MrtInput.TheVariants.{Dump}
 use Rattle.fib_due.specs.Stepping.{events_of}
 use Rattle.fib_due.specs.Due.{Printed, later_at, run_at, vrps_at}
 
--- What is printed was judged by these VRPs: the announcements that are told as Invalid are those of what was said, each with the first VRP that covers it, in their order; and the routes are those of what was said where each of them is its withdrawal (RFC 6811, 2 and 3).
+-- What is printed was judged by these VRPs: the announcements that are reported as Invalid are those of what was said, each with the first VRP that covers it, in their order; and the routes are those of what was said with each of them as its withdrawal (RFC 6811, 2 and 3).
 pub record IsJudgedBy (vrps : List Vrp) (said : List Event) (p : Printed) : Type 0 where
   pub invalid : p.told.invalid ≡ invalid_in vrps said
   pub routes : p.told.routes ≡ entries_of p.hops (after_elems [] (elems_after [] (left_of vrps said)))
 
--- so is what is due of a run whose list of VRPs, dump and updates are told; without the option the list is empty
+-- so is what is due of a run whose list of VRPs, dump and updates are known; without the option the list is empty
 abbrev pub Judges : (List ℕ → Option (List ℕ)) → Option Asked → Type 0
 Judges content None = Unit {0}
 Judges content (Some (Run named)) = (vrps : List Vrp) (load later : List Event) → vrps_at content named.vrps ≡ Ok vrps → events_of Dump content named.dump ≡ Ok load → later_at content named.updates ≡ Ok later → IfOk (run_at content named) (IsJudgedBy vrps (load ++ later))

@@ -41,7 +41,7 @@ cands_after p done = after_elems (after_elems [] p.load) done
 abbrev pub routes_after_elems : Printed → List Elem → Entries
 routes_after_elems p done = entries_of p.hops (cands_after p done)
 
--- a snapshot follows the event of this number: the load, and each so many-th event of the updates
+-- a snapshot follows the event of this number: the load, and each n-th event of the updates
 abbrev pub has_snapshot : ℕ → ℕ → Bool
 has_snapshot every zero = true
 has_snapshot every (suc n) = is_due every (suc n)
@@ -57,7 +57,7 @@ routes_before_event p = earlier_routes p.hops (cands_after p []) p.updates
 abbrev pub routes_then : Printed → ℕ → Entries
 routes_then p = event_routes p.hops (cands_after p []) p.updates
 
--- Where changes are told in steady order, a router that makes them one by one misses no packet meanwhile: whatever front of them it has made, it sends each address where the routes before the event at hand send it or where those after it do, and never back.
+-- If changes come in steady order, a router that makes them one by one misses no packet meanwhile: however many of them it has made, it sends each address where the routes before the event at hand send it or where those after it do, and never back.
 abbrev pub MissesNone : Printed → Type 0
 MissesNone p = p.limits.steady ≡ true → AnswerMeanwhile p.told.changes (routes_before_event p) (routes_then p)
 
@@ -71,7 +71,7 @@ pub record DoesWithin (q : Prefix) (R T L : Entries) : Type 0 where
   pub alike : Alike (width q.family) (of_family q.family R) (of_family q.family L)
   pub outside : SameOutside q.bits (of_family q.family L) (of_family q.family T)
 
--- Where the fewest changes aren't asked for: after each event that changes the chosen hop of a prefix, no table that sends every address of the family where the routes send it then, and has the entries of the table before outside the prefix, has fewer entries of the family.
+-- If the fewest changes aren't asked for: after each event that changes the chosen hop of a prefix, no table that sends every address of the family where the routes send it then, and has the entries of the table before outside the prefix, has fewer entries of the family.
 abbrev pub RepairsFewest : Printed → Type 0
 RepairsFewest p =
     p.limits.fewest ≡ false → (done rest : List Elem) (elem : Elem) (q : Prefix) (T U L : Entries) → p.updates ≡ done ++ elem ∷ rest → changed_at (cands_after p done) elem ≡ Some q
@@ -83,7 +83,7 @@ abbrev pub entries_besides : Option Prefix → Entries → Entries
 entries_besides None T = T
 entries_besides (Some q) T = entries_outside q T
 
--- Where the fewest changes aren't asked for: after each event that no snapshot follows, the table has the entries that it had before, but for those within the prefix of which the event changes the chosen hop, if it does.
+-- If the fewest changes aren't asked for: after each event that no snapshot follows, the table has the entries that it had before, but for those within the prefix of which the event changes the chosen hop, if it does.
 abbrev pub RepairsWithin : Printed → Type 0
 RepairsWithin p =
     p.limits.fewest ≡ false → (done rest : List Elem) (elem : Elem) (T U : Entries) → p.updates ≡ done ++ elem ∷ rest → has_snapshot p.limits.every (length done + 1) ≡ false
@@ -96,11 +96,11 @@ RepairsWithin p =
 abbrev pub event_changes : ℕ → List (ℕ × Change) → List Change
 event_changes n changes = changes_in (filter (λ c. nat_eq c.0 n) changes)
 
--- the changes up to the event before this one, and then the first so many of this one's
+-- the changes up to the event before this one, and then the first n of this one's
 abbrev pub changes_into : ℕ → ℕ → List (ℕ × Change) → List Change
 changes_into n many changes = changes_to n changes ++ take many (event_changes (n + 1) changes)
 
--- A row that tells how many changes an event needed is that of an event which changes the chosen hop of a prefix.
+-- A row that says how many changes an event needed is that of an event which changes the chosen hop of a prefix.
 pub record IsFewestRow (p : Printed) (row : ℕ × ℕ) : Type 0 where
   pub done : List Elem
   pub elem : Elem
@@ -109,7 +109,7 @@ pub record IsFewestRow (p : Printed) (row : ℕ × ℕ) : Type 0 where
   pub place : p.updates ≡ done ++ elem ∷ rest
   pub number : row.0 ≡ length done + 1
   pub changed : changed_at (cands_after p done) elem ≡ Some prefix
-  -- after the first so many changes of the event the table sends every address where the routes send it then
+  -- after the first n changes of the event the table sends every address where the routes send it then
   pub table : Entries
   pub reached : sum_of (changes_into (length done) row.1 p.told.changes) ≡ Some table
   pub alike : AlikeInBoth (routes_after_elems p (done ++ elem ∷ [])) table
@@ -122,7 +122,7 @@ pub record IsFewestRow (p : Printed) (row : ℕ × ℕ) : Type 0 where
 abbrev pub HasRow : ℕ → List (ℕ × ℕ) → Type 0
 HasRow event rows = (before after : List (ℕ × ℕ)) × (n : ℕ) × (rows ≡ before ++ (event, n) ∷ after)
 
--- Where the fewest changes are asked for, each event that changes a chosen hop has a row, and each row tells the fewest changes; else there are no such rows.
+-- If the fewest changes are asked for, each event that changes a chosen hop has a row, and each row says the fewest changes; else there are no such rows.
 pub record MovesFewest (p : Printed) : Type 0 where
   pub none : p.limits.fewest ≡ false → p.told.moves ≡ []
   pub rows : p.limits.fewest ≡ true → AllByRecursion (IsFewestRow p) p.told.moves

@@ -1,4 +1,4 @@
--- Which outcomes a command can have, whether or not its inputs tell what they hold.
+-- Which outcomes a command can have, whether or not the contents of its inputs are known.
 use Rattle.std.specs.Prelude.{◌≡◌, ℕ, Option, Some, None, IfSome, IsSome, Result, Ok, Err}
 use Rattle.fib_words.specs.Commands.{Asked, Run, Check, Make, Steps, Same, Save, Moves, CheckMoves}
 use Rattle.fib_due.specs.declared.outcome.Which.{Which}
@@ -98,7 +98,7 @@ HasEvent Printed n = ⊥
 HasEvent Script n = ⊥
 HasEvent (Text m) n = ⊥
 
--- a refusal of this input, a fault of reading, or want of memory
+-- a refusal of this input, a fault of reading, or out of memory
 abbrev pub StopsAt : Which → Outcome → Type 0
 StopsAt which ReadFault = Unit {0}
 StopsAt which NoMemory = Unit {0}

@@ -61,11 +61,11 @@ save_inputs named = (Dump, named.dump) ∷ input_for Updates named.updates
 
 -- ---- passes over inputs, one after another
 
--- of which name what is held, if that is told
+-- of which name what is held, if that is known
 abbrev pub Content : Type 0
 Content = List ℕ → Option (List ℕ)
 
--- behind which octets an input is read on, by what it is for
+-- after which octets an input is read on, by what it is for
 abbrev pub Judge : Type 1
 Judge = Which → List ℕ → Type 0
 
@@ -107,7 +107,7 @@ abbrev pub lines_end : Which → PassEnd
 lines_end Asks = Anywhere
 lines_end which = AtEnd
 
--- The reads up to a refusal are those of the inputs before the one that is refused, and of this one. A fault of reading is that of the last read. An input is too large if a read behind the last octet that is read gave some. Events that aren't taken are those of the updates, and event 0 is the load: its tries are asked for room once it was read to its end.
+-- The reads up to a refusal are those of the inputs before the one that is refused, and of this one. A fault of reading is that of the last read. An input is too large if a read after the last octet that is read gave some. Events that aren't taken are those of the updates, and event 0 is the load: its tries are asked for room once it was read to its end.
 abbrev pub StopsReading : Content → Judge → List Input → Outcome → List Read → Type 0
 StopsReading content Goes inputs ReadFault reads = (which : Which) × ReadUpTo content Goes inputs which AtFault reads
 StopsReading content Goes inputs NoMemory reads = ReadInPart content Goes inputs reads
@@ -132,7 +132,7 @@ abbrev pub ReadsOf : {X : Type 0} → Content → Judge → List Input → Resul
 ReadsOf content Goes inputs (Ok x) reads = InputsRead content Goes inputs reads
 ReadsOf content Goes inputs (Err o) reads = StopsReading content Goes inputs o reads
 
--- The reads of inputs with this outcome. Each is read to its end at Done, where either check says no, where texts differ, where candidates can't be written and at a fault of writing; else they are read up to the refusal.
+-- The reads of inputs with this outcome. Each is read to its end at Done, if either check says no, if texts differ, if candidates can't be written and at a fault of writing; else they are read up to the refusal.
 abbrev pub ReadsTo : Content → Judge → List Input → Outcome → List Read → Type 0
 ReadsTo content Goes inputs Done reads = InputsRead content Goes inputs reads
 ReadsTo content Goes inputs (CheckNo x) reads = InputsRead content Goes inputs reads
@@ -153,7 +153,7 @@ ReadsTexts content inputs (CheckNo x) reads = ReadToOne content inputs reads
 ReadsTexts content inputs WriteFault reads = InputsRead content TextMayGoOn inputs reads ⊎ ReadToOne content inputs reads
 ReadsTexts content inputs o reads = ReadsTo content TextMayGoOn inputs o reads
 
--- The reads of what words ask for: those of the inputs that they name. No read of an input is made once what was read of it before is to be refused, where the input tells what it holds. Words that are no command read nothing, and what is made of a number isn't read.
+-- The reads of what words ask for: those of the inputs that they name. No read of an input is made once what was read of it before is to be refused, if the input's content is known. Words that are no command read nothing, and what is made of a number isn't read.
 abbrev pub ReadsAt : Content → Option Asked → Outcome → List Read → Type 0
 ReadsAt content None o reads = reads ≡ []
 ReadsAt content (Some (Run named)) o reads = ReadsTo content (RunMayGoOn content named) (run_inputs named) o reads

@@ -28,15 +28,15 @@ use Rattle.fib_due.specs.Checks.{verdict_of}
 use Rattle.fib_due.specs.Owned.{IsSave}
 use Rattle.fib_due.specs.Due.{Output, Ran, Checked, Made, Alike, Repeats, Saved, Moved, Claimed, Printed, printed_text}
 
--- nothing is wrong exactly where the rows are a certificate that the least table is least for the routes
+-- nothing is wrong exactly if the rows are a certificate that the least table is least for the routes
 abbrev pub Decides : Used → Type 0
 Decides used = (verdict_of used ≡ None) ↔ IsCertificate used.routes used.least used.cert
 
--- where nothing is wrong, the least table sends every address where the routes send it, and in either family no table that does so has fewer entries
+-- if nothing is wrong, the least table sends every address where the routes send it, and in either family no table that does so has fewer entries
 abbrev pub YesProves : Used → Type 0
 YesProves used = verdict_of used ≡ None → LeastInBoth used.routes used.least
 
--- this holds of what is used of a text, where a check is due
+-- this holds of what is used of a text, if a check is due
 abbrev pub IfChecked : Result Output Stop → (Used → Type 0) → Type 0
 IfChecked (Ok (Ran p)) P = Unit {0}
 IfChecked (Ok (Checked used)) P = P used
@@ -59,7 +59,7 @@ pub record ChecksYes (text : List ℕ) : Type 0 where
 abbrev pub PrintsYes : Printed → Type 0
 PrintsYes p = ChecksYes (printed_text p)
 
--- where a run is due, this holds of what is to be printed
+-- if a run is due, this holds of what is to be printed
 abbrev pub IfRan : Result Output Stop → (Printed → Type 0) → Type 0
 IfRan (Ok (Ran p)) P = P p
 IfRan (Ok (Checked used)) P = Unit {0}
@@ -83,17 +83,17 @@ IsRun (Some (Moves named)) = ⊥
 IsRun (Some (CheckMoves named)) = ⊥
 IsRun None = ⊥
 
--- a text that a check says yes to was added, where out tells it
+-- a text that a check says yes to was added, if out says it
 abbrev pub AddsYes : Option (List ℕ) → Option (List ℕ) → Type 0
 AddsYes old new = (text : List ℕ) × Adds old new text × ChecksYes text
 
--- a front of such a text was added
+-- the first n octets of such a text were added
 abbrev pub AddsFrontOfYes : Option (List ℕ) → Option (List ℕ) → Type 0
 AddsFrontOfYes old new = (text : List ℕ) × AddsSome old new text × ChecksYes text
 
 -- ---- texts that are compared
 
--- this holds of texts, where they are compared
+-- this holds of texts, if they are compared
 abbrev pub IfCompared : Result Output Stop → (Compared → Type 0) → Type 0
 IfCompared (Ok (Alike texts)) P = P texts
 IfCompared (Ok (Ran p)) P = Unit {0}
@@ -105,14 +105,14 @@ IfCompared (Ok (Moved steady t)) P = Unit {0}
 IfCompared (Ok (Claimed c)) P = Unit {0}
 IfCompared (Err stop) P = Unit {0}
 
--- The answer is what comparing the tables comes to: none differs from the first, or the least address at which one does and the first that does there. Where none differs, every two tables send every address to the same hop.
+-- The answer is what comparing the tables comes to: none differs from the first, or the least address at which one does and the first that does there. If none differs, every two tables send every address to the same hop.
 pub record Compares (texts : Compared) : Type 0 where
   pub found : ComparesTo texts.first texts.others (least_difference texts.first texts.others)
   pub alike : answer_of texts ≡ None → EveryTwo AlikeInBoth (texts.first ∷ texts.others)
 
 -- ---- what a router must change
 
--- this holds of a router's table and routes, and of whether changes are told in steady order, where it is due what the router must change
+-- this holds of a router's table and routes, and of whether changes come in steady order, if it is due what the router must change
 abbrev pub IfMoved : Result Output Stop → (Bool → router.RouterTables → Type 0) → Type 0
 IfMoved (Ok (Moved steady t)) P = P steady t
 IfMoved (Ok (Ran p)) P = Unit {0}
@@ -124,7 +124,7 @@ IfMoved (Ok (Saved said)) P = Unit {0}
 IfMoved (Ok (Claimed c)) P = Unit {0}
 IfMoved (Err stop) P = Unit {0}
 
--- a family's changes, as they are told
+-- a family's changes, as they are written
 abbrev pub told_family_changes : Bool → Family → router.RouterTables → List Change
 told_family_changes steady f t = told_in steady (family_changes f t.routes t.table)
 
@@ -134,13 +134,13 @@ pub record Reroutes (steady : Bool) (t : router.RouterTables) : Type 0 where
   pub v4 : AreProvedShortest V4 (family_table V4 t.routes) (family_table V4 t.table) (told_family_changes steady V4 t) (proving_rows V4 t.routes t.table)
   pub v6 : AreProvedShortest V6 (family_table V6 t.routes) (family_table V6 t.table) (told_family_changes steady V6 t) (proving_rows V6 t.routes t.table)
 
--- Where the changes are told in steady order: while the router makes them one by one, it sends each address where its table sends it or where the routes do, and never back.
+-- If the changes come in steady order: while the router makes them one by one, it sends each address where its table sends it or where the routes do, and never back.
 abbrev pub ReroutesSteadily : Bool → router.RouterTables → Type 0
 ReroutesSteadily steady t = steady ≡ true → AnswerSteadily (moves_for steady t).changes (in_order t.table) (in_order t.table) (in_order t.routes)
 
 -- ---- what a router was told to change
 
--- this holds of what is claimed of a router's table and routes, where a check of it is due
+-- this holds of what is claimed of a router's table and routes, if a check of it is due
 abbrev pub IfClaimed : Result Output Stop → (claims.Claimed → Type 0) → Type 0
 IfClaimed (Ok (Claimed c)) P = P c
 IfClaimed (Ok (Ran p)) P = Unit {0}
@@ -152,13 +152,13 @@ IfClaimed (Ok (Saved said)) P = Unit {0}
 IfClaimed (Ok (Moved steady t)) P = Unit {0}
 IfClaimed (Err stop) P = Unit {0}
 
--- Nothing is wrong exactly where the changes, IPv4's before IPv6's, make the router's table one that sends every address where the routes send it, no fewer do, and in each family its rows prove it, to whoever trusts the rules of rows alone.
+-- Nothing is wrong exactly if the changes, IPv4's before IPv6's, make the router's table one that sends every address where the routes send it, no fewer do, and in each family its rows prove it, to whoever trusts the rules of rows alone.
 abbrev pub DecidesMoves : claims.Claimed → Type 0
 DecidesMoves c = (claim_verdict c.claim ≡ None) ↔ IsProved c.claim
 
 -- ---- checkpoints
 
--- this holds of what was said, where it is saved
+-- this holds of what was said, if it is saved
 abbrev pub IfSaved : Result Output Stop → (List Event → Type 0) → Type 0
 IfSaved (Ok (Saved said)) P = P said
 IfSaved (Ok (Ran p)) P = Unit {0}
@@ -181,6 +181,6 @@ pub record IsCheckpoint (octets : List ℕ) : Type 0 where
   pub are : octets ≡ saved (after_events [] said)
   pub restores : Restores said
 
--- such octets were added, where out tells it
+-- such octets were added, if out says it
 abbrev pub AddsCheckpoint : Option (List ℕ) → Option (List ℕ) → Type 0
 AddsCheckpoint old new = (octets : List ℕ) × Adds old new octets × IsCheckpoint octets

@@ -9,7 +9,7 @@ use Rattle.route_tries.specs.Sizes.{Sizes, Shortage, shortage}
 use Rattle.fib_due.specs.declared.outcome.MrtInput.{MrtInput}
 use Rattle.fib_due.specs.declared.outcome.MrtInput.TheVariants.{Dump, Updates}
 
--- how many elementary events of the updates a snapshot follows, whether each event makes the fewest changes, whether changes are told in steady order, and how large tries are
+-- how many elementary events of the updates a snapshot follows, whether each event makes the fewest changes, whether changes come in steady order, and how large tries are
 pub record Limits : Type 0 where
   pub every : ℕ
   pub fewest : Bool
@@ -29,7 +29,7 @@ routes_by elems = entries_of (hops_after [] elems) (after_elems [] elems)
 abbrev pub hops_or : List Elem → Option Refusal → Option Refusal
 hops_or elems other = if nat_lt most_hops (length (hops_after [] elems)) then Some ManyHops else other
 
--- What is too much after the last of these elementary events, where the ones before it were taken: hops; and of updates, else, what
+-- What is too much after the last of these elementary events, if the ones before it were taken: hops; and of updates, else, what
 -- the tries of the routes need. No trie is asked for until the load ends.
 abbrev pub too_much : MrtInput → Sizes → List Elem → Option Refusal
 too_much Dump z elems = hops_or elems None

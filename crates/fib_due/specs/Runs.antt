@@ -18,7 +18,7 @@ use Rattle.fib_due.specs.Stops.{Stop}
 use Rattle.fib_due.specs.Due.{Output, Printed}
 use Rattle.fib_due.specs.Proves.{IfRan}
 
--- where a run is due, this holds of what is told
+-- if a run is due, this holds of what is reported
 abbrev pub IfDue : Result Output Stop → (Told → Type 0) → Type 0
 IfDue output P = IfRan output (λ p. P p.told)
 
@@ -38,7 +38,7 @@ Answers p = AllByRecursion (λ (a : Answer). (a.hop ≡ match_in p.told.routes a
 abbrev pub HasLeast : Told → Type 0
 HasLeast told = LeastInBoth told.routes told.least
 
--- In either family the least table is the aggregate of the whole space: at each prefix it has an entry exactly where what is inherited there is no best hop, and the entry's hop is best: the table's own there where that is best, else the least.
+-- In either family the least table is the aggregate of the whole space: at each prefix it has an entry exactly if what is inherited there is no best hop, and the entry's hop is best: the table's own there if that is best, else the least.
 abbrev pub HasAggregate : Told → Type 0
 HasAggregate told = AggregateInBoth told.routes told.table told.least
 
@@ -75,7 +75,7 @@ RowHasHop hops (bound_row f n) = Unit {0}
 abbrev pub EntryHasHop : List Address → Prefix × ℕ → Type 0
 EntryHasHop hops e = NumbersHop hops e.1
 
--- No two hops are one, so different numbers have different addresses. Each route has a hop, and so has its row; every other number that is told is 0 or has a hop.
+-- No two hops are one, so different numbers have different addresses. Each route has a hop, and so has its row; every other number that is printed is 0 or has a hop.
 pub record HasHops (p : Printed) : Type 0 where
   pub distinct : IsDistinct same_address p.hops
   pub routes : HaveHops p.hops p.told.routes

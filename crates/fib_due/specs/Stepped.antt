@@ -28,18 +28,19 @@ EndsEarly s NoMemory = Unit {0}
 EndsEarly s ReadFault = Unit {0}
 EndsEarly s outcome = ⊥
 
--- at Done out has the rows of a run over the whole script, at a fault of writing a front of such rows; else it ended early
+-- at Done out has the rows of a run over the whole script, at a fault of writing the first n octets of such rows; else it ended
+-- early
 abbrev pub EndsRun : Stepping → Option (List ℕ) → Option (List ℕ) → Outcome → Type 0
 EndsRun s old new Done = (text : List ℕ) × IsTextOf s text × Adds old new text
 EndsRun s old new WriteFault = (text : List ℕ) × IsTextOf s text × AddsSome old new text
 EndsRun s old new outcome = EndsEarly s outcome
 
--- this holds of the run, where the inputs tell what they hold and aren't refused
+-- this holds of the run, if the contents of the inputs are known and aren't refused
 abbrev pub IfStepping : Result Stepping Stop → (Stepping → Type 0) → Type 0
 IfStepping (Ok s) P = P s
 IfStepping (Err stop) P = Unit {0}
 
--- so ends what the words ask for, where it is a run in steps
+-- so ends what the words ask for, if it is a run in steps
 abbrev pub FitsSteps : (List ℕ → Option (List ℕ)) → Option Asked → Option (List ℕ) → Option (List ℕ) → Outcome → Type 0
 FitsSteps content None old new outcome = Unit {0}
 FitsSteps content (Some (Run named)) old new outcome = Unit {0}

@@ -22,7 +22,7 @@ events_of which content name = do
 abbrev pub events_at : (List ℕ → Option (List ℕ)) → List ℕ → Result (List Event) Stop
 events_at content name = events_of Updates content name
 
--- the outcome where an input gives no events
+-- the outcome if an input gives no events
 abbrev pub refusal_by : MrtInput → WholeError → Outcome
 refusal_by which (whole.Malformed malformed) = Malformed (input_of which) malformed.number (rule_number malformed.rule)
 refusal_by which whole.NoMemory = NoMemory

@@ -20,14 +20,14 @@ use Rattle.fib_due.specs.declared.outcome.Which.TheVariants.{Printed, Script, Vr
 use Rattle.fib_due.specs.declared.outcome.Which.TheVariants as all
 use Rattle.fib_due.specs.Refusals.{Refusal, ManyHops, Short}
 
--- what isn't told: an input's content, or the text of a run in steps, which isn't a function of the inputs; a refusal; or that of a path
+-- what isn't known: an input's content, or the text of a run in steps, which isn't a function of the inputs; a refusal; or that of a path
 -- that is too long, by its prefix and its length
 pub data Stop : Type 0 where
   Untold : Stop
   Refused : Outcome → Stop
   LongPath : Prefix → ℕ → Stop
 
--- the content of an input, where it is told
+-- the content of an input, if it is known
 abbrev pub told_content : Option (List ℕ) → Result (List ℕ) Stop
 told_content None = Err Untold
 told_content (Some octets) = Ok octets
@@ -89,7 +89,7 @@ abbrev pub event_in : MrtInput → ℕ → ℕ
 event_in Dump n = 0
 event_in Updates n = n
 
--- the outcome where something is too much after the event of this number
+-- the outcome if something is too much after the event of this number
 abbrev pub outcome_at : ℕ → Refusal → Outcome
 outcome_at n ManyHops = HopsFull n
 outcome_at n (Short s) = TrieFull n s.need s.have s.arena
@@ -104,14 +104,14 @@ abbrev pub with_room : {A : Type 0} → Option Shortage → A → Result A Stop
 with_room None x = Ok x
 with_room (Some s) x = Err (Refused (outcome_at 0 (Short s)))
 
--- what is due is this, if all that it rests on is told
+-- what is due is this, if all that it rests on is known
 abbrev pub IsDueIfTold : {Y : Type 0} → Result Y Stop → Result Y Stop → Type 0
 IsDueIfTold (Err Untold) answer = Unit {0}
 IsDueIfTold (Err (Refused o)) answer = Err (Refused o) ≡ answer
 IsDueIfTold (Err (LongPath p n)) answer = Err (LongPath p n) ≡ answer
 IsDueIfTold (Ok y) answer = Ok y ≡ answer
 
--- An error is the refusal that is due, or a fault of reading or want of memory in its place.
+-- An error is the refusal that is due, or a fault of reading or running out of memory in its place.
 abbrev pub FailsDue : {Y : Type 0} → Outcome → Result Y Stop → Type 0
 FailsDue Done due = ⊥
 FailsDue (CheckNo x) due = ⊥
@@ -123,7 +123,7 @@ FailsDue ReadFault due = Unit {0}
 FailsDue (PathTooLong p n) due = IsDueIfTold due (Err (LongPath (prefix_as p) n))
 FailsDue o due = IsDueIfTold due (Err (Refused o))
 
--- What a call returned, seen by view, is what is due, but for faults and want of memory.
+-- What a call returned, seen by view, is what is due, but for faults and running out of memory.
 abbrev pub GivesDue : {X Y : Type 0} → (X → Y) → Result X Outcome → Result Y Stop → Type 0
 GivesDue view (Ok x) due = IsDueIfTold due (Ok (view x))
 GivesDue view (Err o) due = FailsDue o due

@@ -1,4 +1,4 @@
--- What holds where an input doesn't tell what it holds.
+-- What holds if the content of an input isn't known.
 use Rattle.std.specs.Prelude.{Bool, ℕ, List, Option, Some, None, Result, Ok, Err, ◌⊎◌}
 use Rattle.table_model.specs.Address.{Prefix}
 use Rattle.printed_text.specs.Rows.{Vrp}
@@ -31,7 +31,7 @@ FitsUntold d old new outcome = Meets d outcome × Writes (text_due d) old new ou
 abbrev pub FitsStepping : Result Stepping Stop → Option (List ℕ) → Option (List ℕ) → Outcome → Type 0
 FitsStepping d old new outcome = FitsUntold (stepped d) old new outcome × IfStepping d (λ s. EndsRun s old new outcome)
 
--- such asks and such a list of VRPs as a run can have: those that its inputs hold, where they tell it; none where none are named
+-- such asks and such a list of VRPs as a run can have: those that its inputs hold, if that is known; none if none are named
 abbrev pub CanHave : (List ℕ → Option (List ℕ)) → Named → List Address → List Vrp → Type 0
 CanHave content named asks vrps = IsDueIfTold (asks_at content named.asks) (Ok asks) × IsDueIfTold (vrps_at content named.vrps) (Ok vrps)
 

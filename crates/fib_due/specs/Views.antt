@@ -8,7 +8,7 @@ use Rattle.fib_due.specs.declared.reply.Wrong as code_wrong
 use Rattle.fib_due.specs.declared.reply.Wrong.TheVariants as wrong
 use Rattle.fib_due.specs.Due.{Reply, Wrong, Refuted, Differs, MovesRefuted}
 
--- a text, and what is wrong where it says so
+-- a text, and what is wrong if it says so
 abbrev pub wrong_as : code_wrong.Wrong → Wrong
 wrong_as (wrong.No x) = Refuted (no_as x)
 wrong_as (wrong.Differ d) = Differs (difference_as d)

@@ -1,8 +1,8 @@
 //! What a command is due to come to, and its outcome.
 //!
-//! The outcomes with their lines and statuses; what is due of the words and of what the inputs hold, as definitions over them; and
-//! laws of what is due: that a run's table sends every address where its routes send it and is least, that a check decides, that
-//! texts that are compared are told apart where they differ, and that a router's changes are the fewest.
+//! Here are the outcomes with their lines and statuses, and what is due of the words and of what the inputs hold, as definitions
+//! over them. Laws say of what is due that a run's table is least and sends every address where its routes send it, that a check
+//! decides, that a comparison of texts names where they differ, and that a router's changes are the fewest.
 #![tactic(auto)]
 
 mod outcome;

@@ -13,7 +13,7 @@ use fib_same::Difference;
 use itoa::Buffer;
 use router_moves::WrongMoves;
 
-/// Room for the line that tells an outcome.
+/// Room for the line that reports an outcome.
 pub const MOST_LINE: usize = 128;
 
 /// An input, by what it is for.
@@ -71,7 +71,7 @@ pub enum Outcome {
     Usage,
     /// An input couldn't be read.
     ReadFault,
-    /// The output couldn't be written; a front of it was.
+    /// The output couldn't be written; its first n octets were, for some n.
     WriteFault,
     /// A record of this input breaks a rule of reading.
     Malformed {
@@ -129,7 +129,7 @@ pub enum Outcome {
     },
 }
 
-/// The line that tells an outcome, in octets.
+/// The line that reports an outcome, in octets.
 pub type Line = ArrayVec<u8, MOST_LINE>;
 
 /// Adds a text to a line.
@@ -297,7 +297,7 @@ impl Outcome {
         }
     }
 
-    /// The line that tells it, with its line feed; nothing for Done.
+    /// The line that reports it, with its line feed; nothing for Done.
     pub fn line(&self) -> Line
         ensures { result.items ≡ outcome_line self.now }
     {

@@ -1,4 +1,4 @@
-//! What is read of one input, and the outcome where it isn't.
+//! What is read of one input, and the outcome if it isn't.
 
 ghost use Rattle.std.specs.Prelude.{◌≡◌, ◌≤◌, ◌^◌, ◌∷◌, List, [], Ok, Some, None, length, map, IfErr, IfOk, IfSome, IsSome, OnErr, OnOk, option_to_list, true};
 ghost use Rattle.fib_due.specs.Due.{input_at};

@@ -15,7 +15,7 @@ pub enum Wrong {
     MovesNo(WrongMoves),
 }
 
-/// A text to be written, and what is wrong where it says so.
+/// A text to be written, and what is wrong if it says so.
 #[derive(Drop)]
 pub struct Reply {
     /// The text.

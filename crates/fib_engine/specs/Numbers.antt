@@ -41,7 +41,7 @@ abbrev pub HasNumber : List Address → Option Address → Type 0
 HasNumber hops None = Unit {0}
 HasNumber hops (Some a) = IsNumbered hops a
 
--- the route of a choice that changes its hop, with the number of the hop after, or none where it doesn't
+-- the route of a choice that changes its hop, with the number of the hop after, or none if it doesn't
 abbrev pub IsRouteOf : List Address → Choice → Option (code_prefix.Prefix × code_hop.Hop) → Type 0
 IsRouteOf hops choice None = is_other (option_map addr_as choice.before) (option_map addr_as choice.after) ≡ false
 IsRouteOf hops choice (Some r) = (is_other (option_map addr_as choice.before) (option_map addr_as choice.after) ≡ true) × (r.0 ≡ choice.prefix) × (r.1.0 ≡ number_or_none hops (option_map addr_as choice.after))

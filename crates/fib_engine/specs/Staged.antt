@@ -26,7 +26,7 @@ pub record Staging : Type 0 where
 abbrev pub elem_of_plan : code_planned.Planned → Elem
 elem_of_plan p = elem_as p.elem
 
--- the route that it changes, with the number that the hop chosen then has or gets, 0 where none is; nothing if it changes no chosen hop
+-- the route that it changes, with the number that the hop chosen then has or gets, 0 if none is; nothing if it changes no chosen hop
 abbrev pub planned_route : code_planned.Planned → Route
 planned_route p = p.route
 

@@ -97,7 +97,7 @@ pub record ArePlanned (both : Both) (plan : Plan) : Type 0 where
   pub v4 : IsRepairPlanned both.v4 plan.v4
   pub v6 : IsRepairPlanned both.v6 plan.v6
 
--- what both plans tell, each repaired at the route's prefix or by the fewest changes
+-- what both plans say, each repaired at the route's prefix or by the fewest changes
 pub record AreTold (both : Both) (fewest : Bool) (route : Route) (due : Bool) (v4 v6 : Repair) : Type 0 where
   pub v4_tells : Tells both.v4 fewest (place_in (route_in V4 route)) due (moved_of v4)
   pub v6_tells : Tells both.v6 fewest (place_in (route_in V6 route)) due (moved_of v6)

@@ -38,7 +38,7 @@ use std::marker::Model;
 /// How often a snapshot comes, whether events make the fewest changes, and how large tries are.
 #[derive(Clone, Copy, Debug, PartialEq, Eq)]
 pub struct Limits {
-    /// A snapshot of both families follows each so many elementary events after the load; with 0 none does.
+    /// A snapshot of both families follows each `every` elementary events after the load; with 0 none does.
     pub every: u32,
     /// Whether an event that changes a chosen hop gives the table the fewest changes, instead of repairing it at its prefix.
     pub fewest: bool,
@@ -113,7 +113,7 @@ impl Engine {
     ///
     /// # Errors
     ///
-    /// No memory.
+    /// Out of memory.
     pub fn elementary(&self, event: &Event) -> Result<Vec<Elem>, AllocError>
         ensures { IfOk result (λ elems. map elem_as elems.items
             ≡ elems_of self.now.candidates (event_as event.now)) }
@@ -125,7 +125,7 @@ impl Engine {
     ///
     /// # Errors
     ///
-    /// `HopsFull` exactly where the event brings one different hop too many, or no memory. Then the engine is as it was.
+    /// `HopsFull` exactly if the event brings one different hop too many, or out of memory. Then the engine is as it was.
     pub fn load(&mut self, elem: &Elem) -> Result<(), EngineError>
         requires { self.old.loaded ≡ false }
         ensures loads { OnOk result (Loads (elem_as elem.now) self.old self.new) }
@@ -146,7 +146,7 @@ impl Engine {
     ///
     /// # Errors
     ///
-    /// `HopsFull` exactly where the route brings one different hop too many, or no memory. Then the engine is as it was.
+    /// `HopsFull` exactly if the route brings one different hop too many, or out of memory. Then the engine is as it was.
     pub fn load_put(
         &mut self,
         via: &Via,
@@ -170,15 +170,15 @@ impl Engine {
         Ok(())
     }
 
-    /// Takes an elementary event after the load, counts it, and gives its changes: where it changes the chosen hop, first those
+    /// Takes an elementary event after the load, counts it, and returns its changes: if it changes the chosen hop, first those
     /// of the repair at its prefix, or with `fewest` those to the nearest table, which are the fewest that any table of the routes
-    /// needs; then those of a snapshot of both families, where one is due; and how many are the first step's. Its hop gets a
-    /// number, chosen or not. What tries need is counted anew at its prefix alone, where it changes the chosen hop.
+    /// needs; then those of a snapshot of both families, if one is due; and how many are the first step's. Its hop gets a
+    /// number, chosen or not. What tries need is counted anew at its prefix alone, if it changes the chosen hop.
     ///
     /// # Errors
     ///
-    /// `HopsFull` exactly where the event brings one different hop too many, else `TrieFull` exactly where tries of the routes
-    /// after it need more than an arena has, of which it names the first; or no memory. Then the engine is as it was.
+    /// `HopsFull` exactly if the event brings one different hop too many, else `TrieFull` exactly if tries of the routes
+    /// after it need more than an arena has, of which it names the first; or out of memory. Then the engine is as it was.
     pub fn apply(&mut self, elem: &Elem) -> Result<EventChanges, EngineError>
         requires loaded { self.old.loaded ≡ true }
         requires few { self.old.events + 1 < 2 ^ 64 }
@@ -203,7 +203,7 @@ impl Engine {
         Ok(changes)
     }
 
-    /// How many changes the last event after the load needed before its snapshot; `None` exactly where it changed no chosen hop, or
+    /// How many changes the last event after the load needed before its snapshot; `None` exactly if it changed no chosen hop, or
     /// there was no event yet.
     pub fn last_moves(&self) -> Option<u64>
         ensures { result ≡ self.now.moves }
@@ -215,15 +215,15 @@ impl Engine {
     ///
     /// # Errors
     ///
-    /// No memory.
+    /// Out of memory.
     pub fn routes(&self) -> Result<Vec<Entry>, AllocError>
         ensures { IfOk result (λ v. map entry_as v.items ≡ engine_routes self.now) }
     {
         self.parts.candidates.route_entries(&self.parts.hops)
     }
 
-    /// The tables of the routes, before their first snapshot. Where all candidates lie in the order of prefixes no list of the routes is
-    /// made.
+    /// The tables of the routes, before their first snapshot. If all candidates lie in the order of prefixes no list of the
+    /// routes is made.
     fn tables_of_routes(&self) -> Result<Tables, AllocError>
         ensures { IfOk result (AreOfRoutes (engine_routes self.now)) }
     {
@@ -262,12 +262,12 @@ impl Engine {
         Ok(tables)
     }
 
-    /// Ends the load: makes the kept tables, which are least for the routes, and gives their entries; counts what tries of the
+    /// Ends the load: makes the kept tables, which are least for the routes, and returns their entries; counts what tries of the
     /// routes need.
     ///
     /// # Errors
     ///
-    /// `TrieFull` exactly where that is more than an arena has, of which it names the first; or no memory. Then the engine is as
+    /// `TrieFull` exactly if that is more than an arena has, of which it names the first; or out of memory. Then the engine is as
     /// it was.
     pub fn finish_load(&mut self) -> Result<Vec<Entry>, EngineError>
         requires { self.old.loaded ≡ false }
@@ -295,7 +295,7 @@ impl Engine {
     ///
     /// # Errors
     ///
-    /// No memory.
+    /// Out of memory.
     pub fn table(&self) -> Result<Vec<Entry>, AllocError>
         ensures { IfOk result (λ v. map entry_as v.items ≡ self.now.table) }
     {
@@ -307,7 +307,7 @@ impl Engine {
     ///
     /// # Errors
     ///
-    /// No memory.
+    /// Out of memory.
     pub fn least(&self) -> Result<Fresh, AllocError>
         ensures table { IfOk result (λ v. map entry_as v.table.items
             ≡ aggregate_in_both (routes_told self.now) self.now.table) }
@@ -330,7 +330,7 @@ impl Engine {
     ///
     /// # Errors
     ///
-    /// No memory.
+    /// Out of memory.
     pub fn tries(&self) -> Result<Tries<'_>, AllocError>
         ensures { IfOk result (AreTriesOf self.now.sizes.direct (routes_told self.now)) }
     {
@@ -343,7 +343,7 @@ impl Engine {
         }
     }
 
-    /// What is left to be told once no more events come, and the hops with their numbers: the candidates are let go.
+    /// What is left to be written once no more events come, and the hops with their numbers: the candidates are let go.
     pub fn settle(self) -> (FinalFib, HopTable)
         requires { self.loaded ≡ true }
         ensures sizes { result.0.sizes ≡ self.sizes }

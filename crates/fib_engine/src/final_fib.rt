@@ -14,7 +14,7 @@ use route_tries::{FamilyNeeds, Sizes, Tries, TriesError};
 use std::alloc::{AllocError, Global};
 use std::marker::Model;
 
-/// The kept tables of both families, without the candidates that the routes were chosen from: what is left to be told of an
+/// The kept tables of both families, without the candidates that the routes were chosen from: what is left to be written of an
 /// engine, beside the numbers of next hops. Contracts see what `Rests` lists; the routes are those of the trees.
 #[derive(Drop)]
 pub struct FinalFib {
@@ -41,7 +41,7 @@ impl FinalFib {
     ///
     /// # Errors
     ///
-    /// No memory; then a front of the routes was taken.
+    /// Out of memory; then the first n routes were taken, for some n.
     pub fn emit_routes<S: EntrySink>(&self, out: &mut S) -> Result<(), AllocError>
         requires { S.ready out.old }
         ensures ready { OnOk result (S.ready out.new) }
@@ -54,7 +54,7 @@ impl FinalFib {
     ///
     /// # Errors
     ///
-    /// No memory; then a front of the entries was taken.
+    /// Out of memory; then the first n entries were taken, for some n.
     pub fn emit_table<S: EntrySink>(&self, out: &mut S) -> Result<(), AllocError>
         requires { S.ready out.old }
         ensures ready { OnOk result (S.ready out.new) }
@@ -67,7 +67,7 @@ impl FinalFib {
     ///
     /// # Errors
     ///
-    /// No memory; then a front of the entries was taken.
+    /// Out of memory; then the first n entries were taken, for some n.
     pub fn emit_least<S: EntrySink>(&self, out: &mut S) -> Result<(), AllocError>
         requires { S.ready out.old }
         ensures ready { OnOk result (S.ready out.new) }
@@ -77,12 +77,12 @@ impl FinalFib {
         self.tables.emit_least(out)
     }
 
-    /// Hands on the rows that prove the least table least, one by one; IPv4 first. Each family's table is let go once its rows
-    /// are told.
+    /// Passes on the rows that prove the least table least, one by one; IPv4 first. Each family's table is let go once its rows
+    /// are passed on.
     ///
     /// # Errors
     ///
-    /// No memory; then a front of the rows was taken.
+    /// Out of memory; then the first n rows were taken, for some n.
     pub fn certify<S: RowSink>(self, out: &mut S) -> Result<(), AllocError>
         requires { S.ready out.old }
         ensures ready { OnOk result (S.ready out.new) }
@@ -103,7 +103,7 @@ impl FinalFib {
     ///
     /// # Errors
     ///
-    /// No memory.
+    /// Out of memory.
     pub fn tries(&self) -> Result<Tries<'_>, AllocError>
         ensures { IfOk result (AreTriesOf self.now.sizes.direct self.now.routes) }
     {

@@ -21,7 +21,7 @@ pub struct FittingPlan {
     pub(crate) needs: FamilyNeeds,
 }
 
-/// What both tries need where one thing was needed at a prefix of this family and another is now.
+/// What both tries need if one thing was needed at a prefix of this family and another is now.
 fn replace_need(needs: FamilyNeeds, family: Family, before: Needs, after: Needs) -> FamilyNeeds
     ensures { IsReplaced family needs before after result }
 {
@@ -89,7 +89,7 @@ fn plan_route(
 ///
 /// # Errors
 ///
-/// `TrieFull` exactly where an arena is too small for that, or no memory; then routes and tables are as they were.
+/// `TrieFull` exactly if an arena is too small for that, or out of memory; then routes and tables are as they were.
 pub fn plan_fitting(
     tables: &mut Tables,
     alloc: Global,

@@ -2,7 +2,7 @@
 //!
 //! An `Engine` takes elementary events. Those of a load go to the candidates alone; at its end the kept tables are made, least
 //! ones for the chosen routes. From then on each event that changes a chosen hop is followed by a repair at its prefix, and
-//! now and then by a snapshot of both families. Where the fewest changes are asked for there is no repair: the table of the
+//! now and then by a snapshot of both families. If the fewest changes are asked for there is no repair: the table of the
 //! prefix's family becomes the nearest one that answers as the routes. What takes memory comes first: an event that is refused
 //! leaves the engine as it was.
 //!
@@ -13,7 +13,7 @@
 //! `Engine::apply` goes through the very same plan, but for an event that changes no chosen hop and that no snapshot follows: it asks
 //! no table.
 //!
-//! Where no more events come an engine settles: the candidates are let go, and what is left is told from the trees.
+//! Once no more events come an engine settles: the candidates are let go, and what is left is read from the trees.
 #![tactic(auto)]
 
 mod engine;

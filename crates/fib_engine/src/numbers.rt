@@ -115,7 +115,7 @@ fn is_same(before: &Option<Addr>, after: &Option<Addr>) -> bool
     }
 }
 
-/// The route of a choice that changes its hop, with the number of the hop after; `Hop::NONE` where there is none.
+/// The route of a choice that changes its hop, with the number of the hop after; `Hop::NONE` if there is none.
 pub(crate) fn changed_route(
     hops: &HopTable,
     own: Option<Hop>,

@@ -76,11 +76,11 @@ fn moves_made(route: Option<(Prefix, Hop)>, changes: &EventChanges) -> Option<u6
 }
 
 impl Parts {
-    /// Tells what an elementary event after the load chooses, and takes the memory that this takes. Nothing is seen of it.
+    /// Finds what an elementary event after the load chooses, and takes the memory that this takes. Nothing is seen of it.
     ///
     /// # Errors
     ///
-    /// `HopsFull` exactly where the event brings one different hop too many, or no memory; then all is as it was.
+    /// `HopsFull` exactly if the event brings one different hop too many, or out of memory; then all is as it was.
     fn choose(&mut self, elem: &Elem) -> Result<Chosen, EngineError>
         requires sound { AreSound self.old }
         requires loaded { self.old.is_loaded ≡ true }
@@ -109,7 +109,7 @@ impl Parts {
     ///
     /// # Errors
     ///
-    /// `TrieFull` as `Engine::apply`'s, or no memory; then all is as it was.
+    /// `TrieFull` as `Engine::apply`'s, or out of memory; then all is as it was.
     fn plan_chosen(&mut self, chosen: Chosen) -> Result<Waiting, EngineError>
         requires { IsChosenIn chosen self.old }
         ensures seen { state_in self.new ≡ state_in self.old }
@@ -172,7 +172,7 @@ impl Parts {
         chosen.route.is_none() && !is_due(self.limits.every, self.events + 1)
     }
 
-    /// Makes an event that changes no chosen hop, where no snapshot follows it: no table is touched. It takes no memory.
+    /// Makes an event that changes no chosen hop, if no snapshot follows it: no table is touched. It takes no memory.
     fn pass(&mut self, chosen: Chosen) -> EventChanges
         requires chosen { IsChosenIn chosen self.old }
         requires route { chosen.route ≡ None }
@@ -195,7 +195,7 @@ impl Parts {
     ///
     /// # Errors
     ///
-    /// `TrieFull` as `Engine::apply`'s, or no memory; then all is as it was.
+    /// `TrieFull` as `Engine::apply`'s, or out of memory; then all is as it was.
     #[inline(never)]
     fn make(&mut self, chosen: Chosen) -> Result<EventChanges, EngineError>
         requires { IsChosenIn chosen self.old }
@@ -215,7 +215,7 @@ impl Parts {
         Ok(self.commit(waiting))
     }
 
-    /// Makes an elementary event after the load, and gives its changes. One that changes no chosen hop asks no table, unless a
+    /// Makes an elementary event after the load, and returns its changes. One that changes no chosen hop asks no table, unless a
     /// snapshot follows it.
     ///
     /// # Errors
@@ -245,7 +245,7 @@ impl Parts {
         Ok(changes)
     }
 
-    /// Makes a planned event, and gives its changes. It takes no memory.
+    /// Makes a planned event, and returns its changes. It takes no memory.
     pub(crate) fn commit(&mut self, waiting: Waiting) -> EventChanges
         requires { IsWaiting waiting self.old }
         ensures sound { AreSound self.new }

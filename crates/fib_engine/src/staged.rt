@@ -44,14 +44,14 @@ impl Planned {
     ghost use Rattle.std.specs.Prelude.{◌≡◌};
     ghost use Rattle.fib_engine.specs.Staged.{planned_hop, planned_route};
 
-    /// The route that the event changes, with the hop that is chosen then, or `Hop::NONE`; none where it changes no chosen hop.
+    /// The route that the event changes, with the hop that is chosen then, or `Hop::NONE`; none if it changes no chosen hop.
     pub fn route(&self) -> Option<(Prefix, Hop)>
         ensures { result ≡ planned_route self.now }
     {
         self.route
     }
 
-    /// The hop that `commit` will number, with its number; none where the event brings no hop that has none yet.
+    /// The hop that `commit` will number, with its number; none if the event brings no hop that has none yet.
     pub fn brings(&self) -> Option<(Hop, Addr)>
         ensures { result ≡ planned_hop self.now }
     {
@@ -96,11 +96,11 @@ impl Staged {
         self.parts.limits.sizes
     }
 
-    /// The event as elementary events, as `Engine::elementary` tells it.
+    /// The event as elementary events, as `Engine::elementary` returns it.
     ///
     /// # Errors
     ///
-    /// No memory.
+    /// Out of memory.
     pub fn elementary(&self, event: &Event) -> Result<Vec<Elem>, AllocError>
         ensures { IfOk result (λ elems. map elem_as elems.items
             ≡ elems_of self.now.held.candidates (event_as event.now)) }
@@ -153,7 +153,7 @@ impl Staged {
         self.parts.tables.tree(family)
     }
 
-    /// Makes a planned event, counts it, and gives its changes. It takes no memory.
+    /// Makes a planned event, counts it, and returns its changes. It takes no memory.
     pub fn commit(&mut self, planned: Planned) -> EventChanges
         requires { self.old.planned ≡ Some (elem_of_plan planned) }
         ensures rest { self.new.planned ≡ None }
@@ -191,8 +191,8 @@ impl Staged {
     ///
     /// # Errors
     ///
-    /// `HopsFull` exactly where the event brings one different hop too many, else `TrieFull` exactly where tries of the routes
-    /// after it need more than an arena has, of which it names the first; or no memory. Then the engine is as it was.
+    /// `HopsFull` exactly if the event brings one different hop too many, else `TrieFull` exactly if tries of the routes
+    /// after it need more than an arena has, of which it names the first; or out of memory. Then the engine is as it was.
     pub fn apply(&mut self, elem: &Elem) -> Result<EventChanges, EngineError>
         requires rest { self.old.planned ≡ None }
         requires few { self.old.held.events + 1 < 2 ^ 64 }
@@ -216,11 +216,11 @@ impl Staged {
         Ok(self.commit(planned))
     }
 
-    /// The routes, in the order of prefixes, as `Engine::routes` tells them: those before the planned event, if one is.
+    /// The routes, in the order of prefixes, as `Engine::routes` returns them: those before the planned event, if one is.
     ///
     /// # Errors
     ///
-    /// No memory.
+    /// Out of memory.
     pub fn routes(&self) -> Result<Vec<Entry>, AllocError>
         ensures { IfOk result (λ v. map entry_as v.items ≡ engine_routes self.now.held) }
     {
@@ -231,7 +231,7 @@ impl Staged {
     ///
     /// # Errors
     ///
-    /// No memory.
+    /// Out of memory.
     pub fn table(&self) -> Result<Vec<Entry>, AllocError>
         ensures { IfOk result (λ v. map entry_as v.items ≡ self.now.held.table) }
     {
@@ -242,7 +242,7 @@ impl Staged {
     ///
     /// # Errors
     ///
-    /// No memory.
+    /// Out of memory.
     pub fn least(&self) -> Result<Fresh, AllocError>
         requires { self.now.planned ≡ None }
         ensures table { IfOk result (λ v. map entry_as v.table.items

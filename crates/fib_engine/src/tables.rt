@@ -115,7 +115,7 @@ impl Tables {
     ///
     /// # Errors
     ///
-    /// No memory.
+    /// Out of memory.
     pub fn load(alloc: Global, routes: &[Entry]) -> Result<Tables, AllocError>
         requires { AllByRecursion (λ r. 1 ≤ r.1) (map entry_as routes.now) }
         ensures both { IfOk result AreBoth }
@@ -131,7 +131,7 @@ impl Tables {
     ///
     /// # Errors
     ///
-    /// No memory.
+    /// Out of memory.
     pub fn load_from<S: EntrySource>(
         alloc: Global,
         v4: &mut S,
@@ -155,7 +155,7 @@ impl Tables {
     ///
     /// # Errors
     ///
-    /// No memory.
+    /// Out of memory.
     pub fn filled(self) -> Result<(Tables, Vec<Entry>), AllocError>
         requires both { AreBoth self }
         requires empty { (self.v4.entries ≡ []) × (self.v6.entries ≡ []) }
@@ -170,13 +170,13 @@ impl Tables {
         Ok((Tables { v4, v6 }, entries))
     }
 
-    /// Plans the repair where a route changes, if one does, or the fewest changes that its family's table needs then, and a
+    /// Plans the repair if a route changes, or the fewest changes that its family's table needs then, and a
     /// snapshot of both, if it is due: the table of the route's family has the route then, and all memory is taken. The plan is
     /// to be committed before anything else changes.
     ///
     /// # Errors
     ///
-    /// No memory; then routes and tables are as they were.
+    /// Out of memory; then routes and tables are as they were.
     pub fn plan(
         &mut self,
         alloc: Global,
@@ -215,7 +215,7 @@ impl Tables {
         }
     }
 
-    /// Puts the route of a plan back, where nothing changed since: routes and tables are as they were before it. It takes no
+    /// Puts the route of a plan back, if nothing changed since: routes and tables are as they were before it. It takes no
     /// memory.
     pub fn undo(&mut self, plan: Plan)
         requires { ArePlanned self.old plan }
@@ -226,7 +226,7 @@ impl Tables {
         self.v6.undo(plan.v6);
     }
 
-    /// Makes what was planned, where nothing changed since, and gives the changes. It takes no memory.
+    /// Makes what was planned, if nothing changed since, and returns the changes. It takes no memory.
     pub fn commit(&mut self, plan: Plan) -> EventChanges
         requires { ArePlanned self.old plan }
         ensures routes { KeepRoutes self.old self.new }
@@ -303,7 +303,7 @@ impl Tables {
         Ok(())
     }
 
-    /// Hands on the rows that prove tables of the routes least; IPv4 first. Each is let go once its rows are told.
+    /// Passes on the rows that prove tables of the routes least; IPv4 first. Each is let go once its rows are passed on.
     pub fn certify<S: RowSink>(self, out: &mut S) -> Result<(), AllocError>
         requires both { AreBoth self }
         requires ready { S.ready out.old }

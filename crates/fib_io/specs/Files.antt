@@ -6,15 +6,15 @@ use Rattle.std.specs.String.{string_bytes}
 use Rattle.fib_io.specs.Octets.{AreAt}
 use Rattle.fib_io.specs.declared.files.OpenInput.{OpenInput}
 
--- where the content is told, the reader tells it too, and stands at its beginning
+-- if the content is known, the reader says it too, and stands at its beginning
 abbrev pub IsOpened : Option (List ℕ) → Option (List ℕ) → Option ℕ → Type 0
 IsOpened content octets place = IfSome content (λ all. (octets ≡ Some all) × (place ≡ Some 0))
 
--- where a reader tells its octets and its place, a read gave what stands there and went on behind it, or failed and moved nothing
+-- if a reader says its octets and its place, a read gave what stands there and went on after it, or failed and moved nothing
 abbrev pub ReadsForward : {E : Type 0} → Option (List ℕ) → Option ℕ → Option ℕ → List ℕ → Result ℕ E → Type 0
 ReadsForward octets old new buf result = ForSome octets (λ all. ForSome old (λ at. MatchResult result (λ n. AreAt all at buf n × (new ≡ Some (at + n))) (λ _. new ≡ Some at)))
 
--- where the content is told, the reader tells it too, and stands at the place, where that is known
+-- if the content is known, the reader says it too, and stands at the place, if that is known
 abbrev pub IsOpen : Option (List ℕ) → Option (List ℕ) → Option ℕ → Option ℕ → Type 0
 IsOpen content octets position place = ForSome content (λ all. (octets ≡ Some all) × IsSome position × ForSome place (λ at. position ≡ Some at))
 
@@ -28,16 +28,16 @@ AllOpen content octets position inputs = All (ReadsContent content octets positi
 
 -- ---- what is asked of a system
 
--- a call that a reader met: it went to a place, or a read gave so many octets
+-- a call that a reader met: it went to a place, or a read gave n octets
 pub data Call : Type 0 where
   Went : ℕ → Call
   Gave : ℕ → Call
 
--- one call more was met, where the calls are told
+-- one call more was met, if the calls are known
 abbrev pub with_call : Call → Option (List Call) → Option (List Call)
 with_call call calls = option_map (λ met. met ++ call ∷ []) calls
 
--- one name more was opened, where the names are told
+-- one name more was opened, if the names are known
 abbrev pub with_name : List ℕ → Option (List (List ℕ)) → Option (List (List ℕ))
 with_name name names = option_map (λ opened. opened ++ name ∷ []) names
 
@@ -59,11 +59,11 @@ place_after at (Gave n ∷ calls) = place_after (at + n) calls
 abbrev pub way_to : ℕ → List Call → List Call
 way_to at calls = if place_after 0 calls == at then [] else Went at ∷ []
 
--- the calls of a read from this place on, which gave so many octets, after earlier calls
+-- the calls of a read from this place on, which gave n octets, after earlier calls
 abbrev pub calls_of_read : ℕ → ℕ → List Call → List Call
 calls_of_read at n calls = way_to at calls ++ Gave n ∷ []
 
--- where the calls are told, the place is the one where they left the reader, if a u64 holds it
+-- if the calls are known, the place is the one where they left the reader, if a u64 holds it
 abbrev pub StandsAfter : Option (List Call) → Option ℕ → Type 0
 StandsAfter calls place = ForSome calls (λ met. ForSome place (λ at. at ≡ place_after 0 met) × (place ≡ None → 2 ^ 64 ≤ place_after 0 met))
 
@@ -94,7 +94,7 @@ abbrev pub calls_met : {R : Type 0} → (R → Option (List Call)) → Option (O
 calls_met calls None = []
 calls_met calls (Some input) = unwrap_or (calls input.reader) []
 
--- the input is open now, and where its reader's calls are told, it met those of the read, and no more
+-- the input is open now, and if its reader's calls are known, it met those of the read, and no more
 abbrev pub ReadsOnce : {R : Type 0} → (R → Option (List Call)) → Option (OpenInput R) → Option (OpenInput R) → ℕ → ℕ → Type 0
 ReadsOnce calls old new at n = IsSomeAnd new (λ input. IfSome (calls input.reader) (λ met. met ≡ calls_met calls old ++ calls_of_read at n (calls_met calls old)))
 

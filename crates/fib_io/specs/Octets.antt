@@ -7,14 +7,14 @@ pub record AreAt (octets : List ℕ) (at : ℕ) (buf : List ℕ) (n : ℕ) : Typ
   pub within : n ≤ length octets - at
   pub ends : n ≡ 0 → 0 < length buf → length octets ≤ at
 
--- where old is told, new is old with the first n octets of the piece at its end
+-- if old is known, new is old with the first n octets of the piece at its end
 abbrev pub AddsFront : Option (List ℕ) → Option (List ℕ) → List ℕ → ℕ → Type 0
 AddsFront old new piece n = IfSome old (λ octets. new ≡ Some (octets ++ take n piece))
 
--- where old is told, new is old with the whole piece at its end
+-- if old is known, new is old with the whole piece at its end
 abbrev pub Adds : Option (List ℕ) → Option (List ℕ) → List ℕ → Type 0
 Adds old new piece = IfSome old (λ octets. new ≡ Some (octets ++ piece))
 
--- where old is told, new is old with some front of the piece at its end
+-- if old is known, new is old with the first n octets of the piece, for some n, at its end
 abbrev pub AddsSome : Option (List ℕ) → Option (List ℕ) → List ℕ → Type 0
 AddsSome old new piece = (n : ℕ) × AddsFront old new piece n

@@ -31,7 +31,7 @@ abbrev pub refusal_of : InFault → ReadError
 refusal_of Failed = read.Fault
 refusal_of NoMemory = read.NoMemory
 
--- a fault comes only where the count of the name rose, and every other answer leaves all counts
+-- a fault comes only if the count of the name rose, and every other answer leaves all counts
 abbrev pub IsReadOf : {T : Type 0} → (List ℕ → ℕ) → (List ℕ → ℕ) → List ℕ → Result T ReadError → Type 0
 IsReadOf before now name (Err read.Fault) = Rose (before name) (now name)
 IsReadOf before now name (Err read.TooLarge) = now ≡ before

@@ -15,11 +15,11 @@ pub record Read : Type 0 where
 abbrev pub read_of : List ℕ → ℕ → Option ℕ → Read
 read_of name at gave = record { name = name; at = at; gave = gave }
 
--- if all reads up to now are told, they are those that were told before, and then such reads
+-- if all reads up to now are known, they are those that were known before, and then such reads
 abbrev pub Makes : Option (List Read) → Option (List Read) → (List Read → Type 0) → Type 0
 Makes before now Such = IfSome now (λ all. (old made : List Read) × (before ≡ Some old) × (all ≡ old ++ made) × Such made)
 
--- one read, with this answer; where memory ran out none was made
+-- one read, with this answer; if memory ran out none was made
 abbrev pub IsOneRead : List ℕ → ℕ → Result ℕ InFault → List Read → Type 0
 IsOneRead name at (Ok n) reads = reads ≡ read_of name at (Some n) ∷ []
 IsOneRead name at (Err Failed) reads = reads ≡ read_of name at None ∷ []
@@ -32,14 +32,14 @@ abbrev pub ReadsLead : List ℕ → ℕ → ℕ → List Read → Type 0
 ReadsLead name from to [] = from ≡ to
 ReadsLead name from to (read ∷ reads) = (n : ℕ) × (0 < n) × (read ≡ read_of name from (Some n)) × ReadsLead name (from + n) to reads
 
--- how a pass over an input ends: at the input's end, behind the last octet that is read of an input, where a read failed, or anywhere
+-- how a pass over an input ends: at the input's end, after the last octet that is read of an input, where a read failed, or anywhere
 pub data PassEnd : Type 0 where
   AtEnd : PassEnd
   PastMost : PassEnd
   AtFault : PassEnd
   Anywhere : PassEnd
 
--- the reads of a pass after those that gave the octets up to this place: at the input's end one that gave nothing, behind the last octet that is read one that gave some, or one that failed
+-- the reads of a pass after those that gave the octets up to this place: at the input's end one that gave nothing, after the last octet that is read one that gave some, or one that failed
 abbrev pub EndsPass : PassEnd → List ℕ → ℕ → List Read → Type 0
 EndsPass AtEnd name at reads = reads ≡ read_of name at (Some 0) ∷ []
 EndsPass PastMost name at reads = (n : ℕ) × (0 < n) × (at ≡ 2 ^ 36) × (reads ≡ read_of name at (Some n) ∷ [])
@@ -62,7 +62,7 @@ pub record Pass (end : PassEnd) (name : List ℕ) (reads : List Read) : Type 0 w
 abbrev pub BeginBehind : (List ℕ → Type 0) → List ℕ → List Read → Type 0
 BeginBehind Such octets reads = All (λ read. Such (take read.at octets)) reads
 
--- the same of the reads of an input, where it tells what it holds
+-- the same of the reads of an input, if its content is known
 abbrev pub AreInTime : Option (List ℕ) → (List ℕ → Type 0) → List Read → Type 0
 AreInTime content Such reads = IfSome content (λ octets. BeginBehind Such octets reads)
 
@@ -73,7 +73,7 @@ pub record PassInTime (content : Option (List ℕ)) (Such : List ℕ → Type 0)
 
 -- ---- what the calls read
 
--- a piece takes one read, which gave it, and none where memory ran out
+-- a piece takes one read, which gave it, and none if memory ran out
 abbrev pub IsPieceRead : List ℕ → ℕ → Result ℕ ReadError → List Read → Type 0
 IsPieceRead name at (Ok n) reads = reads ≡ read_of name at (Some n) ∷ []
 IsPieceRead name at (Err read.Fault) reads = EndsPass AtFault name at reads

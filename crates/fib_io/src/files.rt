@@ -1,14 +1,14 @@
 //! Inputs over files.
 //!
 //! A name's file is opened at its first read and stays open, so that all that is read of a name is of one file, also
-//! where another takes its place under that name meanwhile. A read goes on where the last one ended, or goes to its place
-//! first; so a pipe can be read once, in order. There is one count of faults, a `u64`, which each error raises, but for want
-//! of memory.
+//! if another takes its place under that name meanwhile. A read goes on where the last one ended, or goes to its place
+//! first; so a pipe can be read once, in order. There is one count of faults, a `u64`, which each error raises, except running
+//! out of memory.
 //!
-//! What a file holds no contract can say. `ByName` and `ReadSeek` say what a system may tell, and the inputs are proved
-//! over any: a read gives what stands at its place, opens exactly the name given, and only if it isn't open, goes to no
-//! place where the last read ended, and hands on what one read of the reader gave. What is trusted is the calls of the
-//! system under `SystemFiles` and `File`, which tell nothing.
+//! What a file holds no contract can say. `ByName` and `ReadSeek` say what a system may report, and the inputs are proved over
+//! any. A read gives what stands at its place. It opens exactly the name given, and only if it isn't open. It goes to no place
+//! where the last read ended, and passes on what one read of the reader gave. What is trusted is the calls of the system under
+//! `SystemFiles` and `File`, which say nothing.
 
 ghost use Rattle.std.specs.Prelude.{◌≡◌, ◌↔◌, ℕ, ◌+◌, ◌++◌, ◌≤◌, ◌<◌, List, [], Option, Some, None, option_map, length, slice_get, IfOk, IfSome, IsNone, OnOk};
 ghost use Rattle.std.specs.String.{string_bytes};
@@ -29,7 +29,7 @@ use std::fs::{self, File};
 use std::io::{self, ErrorKind, Read, Seek, SeekFrom};
 use std::rt::Files;
 
-/// A reader that goes to any place. `calls` is what it was asked and did since it was opened, if the type tells it.
+/// A reader that goes to any place. `calls` is what it was asked and did since it was opened, if the type says it.
 pub trait ReadSeek: Read + Seek {
     ghost calls: { Self → Option (List Call) };
 
@@ -40,8 +40,8 @@ pub trait ReadSeek: Read + Seek {
         ensures same { Keeps (Self.stream_bytes self.old) (Self.stream_bytes self.new) }
         ensures met { SeeksTo at (calls self.old) (calls self.new) result };
 
-    /// Reads once, from where it stands. Where it tells its octets and its place, these are the octets there, and it
-    /// stands behind them then.
+    /// Reads once, from where it stands. If it says its octets and its place, these are the octets there, and it
+    /// stands after them then.
     fn read_on(&mut self, buf: &mut [u8]) -> io::Result<usize>
         ensures most { IfOk result (λ n. n ≤ length buf.new) }
         ensures told { ReadsForward (Self.stream_bytes self.old) (Self.stream_position self.old)
@@ -65,7 +65,7 @@ impl ReadSeek for File {
 }
 
 /// Octets that are opened by name. `content` is what each name holds, and `opened` the names that were to be opened up to now,
-/// in their order, if the type tells them.
+/// in their order, if the type says them.
 pub trait ByName {
     type Reader: ReadSeek + Drop;
 
@@ -83,7 +83,7 @@ pub trait ByName {
         ensures same { content self.new ≡ content self.old };
 }
 
-/// The files of a runtime. They tell neither what they hold nor what was opened.
+/// The files of a runtime. They say neither what they hold nor what was opened.
 #[derive(Drop)]
 pub struct SystemFiles<'r, R: Files<File = File>> {
     rt: &'r R,
@@ -133,7 +133,7 @@ impl<T: Drop> From<AllocFailed<T>> for InFault {
 struct OpenInput<R: ReadSeek + Drop> {
     name: String,
     reader: R,
-    // where the reader stands, where that is known
+    // where the reader stands, if that is known
     place: Option<u64>,
 }
 
@@ -188,7 +188,7 @@ fn place_of<R: ReadSeek + Drop>(inputs: &[OpenInput<R>], name: &str) -> Option<u
     inputs.iter().position(|input| input.name.as_str() == name)
 }
 
-/// Files by name. A file that can't be opened, sought or read is a fault, an interrupted call too; where memory is wanting for
+/// Files by name. A file that can't be opened, sought or read is a fault, an interrupted call too; if memory runs out for
 /// it, ours or the system's, it is `NoMemory`. All names have one count of faults.
 #[derive(Drop)]
 pub struct FileInputs<N: ByName + Drop> {
@@ -250,7 +250,7 @@ fn open_input<N: ByName>(
 }
 
 impl<N: ByName + Drop> FileInputs<N> {
-    /// Opens the name, if it isn't open yet, and gives its place among the open inputs.
+    /// Opens the name, if it isn't open yet, and returns its place among the open inputs.
     fn open_named(&mut self, name: &str) -> Result<usize, InFault>
         ensures content { N.content self.new.files ≡ N.content self.old.files }
         ensures faults { self.new.faults ≡ self.old.faults }
@@ -301,7 +301,7 @@ impl<N: ByName + Drop> Inputs for FileInputs<N> {
     ghost reads = { λ _. None };
 
     /// Opens the name unless it is open, goes to the place unless the last read ended there, and reads once. What the reader gave
-    /// is handed on as it is.
+    /// is passed on as it is.
     fn read(&mut self, name: &str, at: u64, buf: &mut [u8]) -> Result<usize, InFault>
         ensures most { IfOk result (λ n. n ≤ length buf.new) }
         ensures told { IfOk result

@@ -1,11 +1,11 @@
 //! What the program reads and writes, with counts of the faults that came up.
 //!
 //! `Inputs` gives octets by name and place, and `Sink` takes octets in order. Each keeps a count of its faults
-//! that never falls, and a failure comes only where the count rose, so that none can be made up. Memory may run out
-//! before a read, which leaves all counts. A contract names what an input holds or what a sink was given, where the
-//! type tells it.
+//! that never falls, and a failure comes only if the count rose, so that none can be made up. Memory may run out
+//! before a read, which leaves all counts. A contract names what an input holds or what a sink was given, if the
+//! type says it.
 //!
-//! `MemInputs` and `MemSink` keep octets in memory and fail at the calls that they are told, `SureInputs` and
+//! `MemInputs` and `MemSink` keep octets in memory and fail at the calls that are planned, `SureInputs` and
 //! `SureSink` never fail, `FileInputs` and `StdSink` stand over files and over standard output and error.
 //! A call of `write_all` makes as many writes as the sink takes pieces, and takes no memory of its own; `read_piece` reads
 //! what comes next of an input, and `read_whole` an input to its end.
@@ -51,8 +51,8 @@ pub struct OutFault;
 
 /// Octets that are read by name and place.
 ///
-/// `content` is what each name holds, where the type tells it. `faults` counts the faults of each name; a type may
-/// give all names one count. `reads` is all reads that were made, in their order, if the type tells them.
+/// `content` is what each name holds, if the type says it. `faults` counts the faults of each name; a type may
+/// give all names one count. `reads` is all reads that were made, in their order, if the type says them.
 pub trait Inputs {
     ghost content: { Self → List ℕ → Option (List ℕ) };
 
@@ -60,9 +60,9 @@ pub trait Inputs {
 
     ghost reads: { Self → Option (List Read) };
 
-    /// Reads octets of `name` from the place `at` on, counted in octets from 0, into the front of `buf`.
+    /// Reads octets of `name` from the place `at` on, counted in octets from 0, into the first octets of `buf`.
     ///
-    /// `Ok(n)` says how many octets were read: as many as the type likes, but 0 only at or past the end or where
+    /// `Ok(n)` says how many octets were read: as many as the type likes, but 0 only at or past the end or if
     /// `buf` is empty. After an `Err` nothing is said of `buf`.
     fn read(&mut self, name: &str, at: u64, buf: &mut [u8]) -> Result<usize, InFault>
         ensures most { IfOk result (λ n. n ≤ length buf.new) }
@@ -75,13 +75,13 @@ pub trait Inputs {
 
 /// Octets that are written one after another.
 ///
-/// `written` is all that was taken so far, where the type tells it. `faults` counts the faults.
+/// `written` is all that was taken so far, if the type says it. `faults` counts the faults.
 pub trait Sink {
     ghost written: { Self → Option (List ℕ) };
 
     ghost faults: { Self → ℕ };
 
-    /// Takes octets from the front of `piece`, and says how many: at least one, unless `piece` is empty.
+    /// Takes the first octets of `piece`, and returns how many: at least one, unless `piece` is empty.
     ///
     /// On `Err` none was added to `written`.
     fn write(&mut self, piece: &[u8]) -> Result<usize, OutFault>
@@ -93,8 +93,8 @@ pub trait Sink {
         ensures cause { HasCause (faults self.old) (faults self.new) result };
 }
 
-/// Writes the whole piece, by as many writes as it takes. At the first fault it stops: then a front of the piece
-/// was written.
+/// Writes the whole piece, by as many writes as it takes. At the first fault it stops: then the first n octets of
+/// the piece were written.
 pub fn write_all<S: Sink>(sink: &mut S, piece: &[u8]) -> Result<(), OutFault>
     ensures ok { OnOk result (Adds (S.written sink.old) (S.written sink.new) piece.now) }
     ensures err { OnErr result (AddsSome (S.written sink.old) (S.written sink.new) piece.now) }

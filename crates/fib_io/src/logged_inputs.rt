@@ -21,7 +21,7 @@ pub struct LoggedRead {
 /// Inputs over others, which keep every read that is made of these, in their order.
 ///
 /// They read as those below do. A read for which memory ran out wasn't made, and isn't kept. If memory runs out for a read that
-/// is to be kept, they tell no reads from then on.
+/// is to be kept, they say no reads from then on.
 #[derive(Drop)]
 pub struct LoggedInputs<I: Inputs + Drop> {
     alloc: Global,

@@ -44,7 +44,7 @@ fn copy_from(octets: &[u8], at: u64, most: usize, buf: &mut [u8]) -> usize
 
 /// Octets by name, with the numbers of the reads that are to fail.
 ///
-/// A name that isn't held is a fault, and tells no content. All names have one count of faults.
+/// A name that isn't held is a fault, and has no known content. All names have one count of faults.
 #[derive(Drop)]
 pub struct MemInputs {
     names: Vec<(String, Vec<u8>)>,
@@ -60,7 +60,7 @@ impl MemInputs {
     ghost use Rattle.fib_io.specs.MemInputs.{read_most, read_plan};
 
     /// Holds these octets under these names. Of two pairs with one name the first counts. The reads with the
-    /// numbers of `failing` fail, where the first read has the number 1. It takes no memory.
+    /// numbers of `failing` fail; the first read has the number 1. It takes no memory.
     pub fn new(names: Vec<(String, Vec<u8>)>, failing: Vec<u64>) -> MemInputs
         ensures content { ⟦<MemInputs as Inputs>⟧.content result ≡ held_under names.items }
         ensures faults { ⟦<MemInputs as Inputs>⟧.faults result ≡ (λ _. 0) }
@@ -99,8 +99,8 @@ impl Inputs for MemInputs {
 
     ghost reads = { λ _. None };
 
-    /// Gives all octets from the place on that there are, that fit and that `at_most` allows. It fails exactly where the plan says so or
-    /// the name isn't held.
+    /// Gives all octets from the place on that there are, that fit and that `at_most` allows. It fails exactly if the plan says
+    /// so or the name isn't held.
     fn read(&mut self, name: &str, at: u64, buf: &mut [u8]) -> Result<usize, InFault>
         ensures most { IfOk result (λ n. n ≤ length buf.new) }
         ensures told { IfOk result (λ n. IfSome (⟦<MemInputs as Inputs>⟧.content self.old name.now)

@@ -37,7 +37,7 @@ impl MemSink {
     ghost use Rattle.fib_io.specs.Plan.{IsNewPlan};
     ghost use Rattle.fib_io.specs.MemSink.{room_left, write_most, write_plan};
 
-    /// Takes memory for `room` octets. The writes with the numbers of `failing` fail, where the first write has
+    /// Takes memory for `room` octets. The writes with the numbers of `failing` fail; the first write has
     /// the number 1.
     pub fn new(alloc: Global, room: usize, failing: Vec<u64>) -> Result<MemSink, AllocError>
         ensures written { IfOk result (λ sink. ⟦<MemSink as Sink>⟧.written sink ≡ Some []) }
@@ -92,8 +92,8 @@ impl Sink for MemSink {
 
     ghost faults = { λ s. s.faults };
 
-    /// Takes all octets that fit and that `at_most` allows, and no memory. It fails exactly where the plan says so or where no room is left
-    /// for a piece that isn't empty.
+    /// Takes all octets that fit and that `at_most` allows, and no memory. It fails exactly if the plan says so or if no room
+    /// is left for a piece that isn't empty.
     fn write(&mut self, piece: &[u8]) -> Result<usize, OutFault>
         ensures most { IfOk result (λ n. n ≤ length piece.now) }
         ensures some { IfOk result (λ n. 0 < length piece.now → 0 < n) }
@@ -128,7 +128,7 @@ impl Sink for MemSink {
 pub struct SureSink;
 
 impl SureSink {
-    /// A sink that tells nothing of what it was given.
+    /// A sink that says nothing of what it was given.
     pub fn new() -> SureSink
         ensures { ⟦<SureSink as Sink>⟧.written result ≡ None }
     {

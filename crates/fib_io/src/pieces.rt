@@ -65,7 +65,7 @@ pub fn piece_room(alloc: Global) -> Result<Vec<u8>, AllocError>
     vec![in alloc; 0u8; MOST_PIECE]
 }
 
-/// Reads once, into the buffer's front; a read that begins before octet 2^36 doesn't cross it.
+/// Reads once, into the buffer's first octets; a read that begins before octet 2^36 doesn't cross it.
 fn read_within<I: Inputs>(
     inputs: &mut I,
     name: &str,
@@ -91,10 +91,10 @@ fn read_within<I: Inputs>(
     }
 }
 
-/// Reads the octets that come next, from the place `at` on, into the front of the room, and says how many: 0 at the input's
-/// end.
+/// Reads the octets that come next, from the place `at` on, into the first octets of the room, and returns how many: 0 at the
+/// input's end.
 ///
-/// Octets are read up to octet 2^36 and no further: where all of these were read, one more read says whether the input ends
+/// Octets are read up to octet 2^36 and no further: if all of these were read, one more read says whether the input ends
 /// there or is too large.
 pub fn read_piece<I: Inputs>(
     inputs: &mut I,

@@ -1,9 +1,9 @@
 //! Sinks over standard output and error.
 //!
 //! Each keeps a count of faults, a `u64`, which it raises at each error, and flushes each write. What became of octets
-//! that the system took no contract can say. `FlushWrite` says what a writer may tell, and the sink is proved over any:
-//! a write adds the front that it tells and is flushed. What is trusted is the calls of standard output and standard
-//! error, which tell nothing.
+//! that the system took no contract can say. `FlushWrite` says what a writer may report, and the sink is proved over any:
+//! a write adds the first octets that it says it took, and is flushed. What is trusted is the calls of standard output and
+//! standard error, which say nothing.
 
 ghost use Rattle.std.specs.Prelude.{◌≡◌, ℕ, ◌≤◌, ◌<◌, List, Option, None, length, take, IfOk, OnErr, OnOk};
 ghost use Rattle.std.specs.Io.KnownBytes.{Appends, Keeps};
@@ -14,7 +14,7 @@ ghost use Rattle.fib_io.specs.Octets.{AddsFront};
 use crate::{OutFault, Sink, count_fault};
 use std::io::{self, Stderr, Stdout, Write};
 
-/// A writer that tells what was flushed, where it tells what it took.
+/// A writer that says what was flushed, if it says what it took.
 pub trait FlushWrite: Write {
     ghost flushed: { Self → Option (List ℕ) };
 
@@ -54,7 +54,7 @@ fn write_through<W: FlushWrite>(inner: &mut W, piece: &[u8]) -> io::Result<usize
 
 /// A writer, flushed within each write. A failed write, a failed flush, an interrupted call of either, and a writer
 /// that takes nothing of a piece that isn't empty are faults. After an `Err` some of the piece may have gone out: a
-/// flush can fail after the write. So it tells nothing of what was written, but that at `Ok` the writer took the front.
+/// flush can fail after the write. So it says nothing of what was written, but that at `Ok` the writer took the first n octets.
 #[derive(Drop)]
 pub struct StdSink<W: FlushWrite + Drop> {
     inner: W,

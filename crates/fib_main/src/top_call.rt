@@ -21,7 +21,7 @@ use fib_due::{Outcome, Wrong};
 use fib_io::{Inputs, Sink, write_all};
 use std::alloc::Global;
 
-/// The outcome where something is wrong.
+/// The outcome if something is wrong.
 fn outcome_of_wrong(wrong: Wrong) -> Outcome
     ensures { EndsBy (Some (wrong_as wrong)) result }
 {
@@ -42,7 +42,7 @@ fn end_of(wrong: Option<Wrong>) -> Outcome
     }
 }
 
-/// The outcome, with nothing told of it yet.
+/// The outcome, with no line written of it yet.
 #[tactic(auto, using(fib_due::proofs::Passes::reads_ended, fib_due::proofs::Passes::reads_refused, fib_due::proofs::Passes::reads_unwritten, fib_due::proofs::Untold::own_end, fib_due::proofs::Untold::own_fault, fib_due::proofs::Untold::some_ends, fib_due::proofs::Untold::some_fault, fib_due::proofs::Untold::some_stop, fib_due::proofs::Untold::steps_end, fib_due::proofs::Untold::steps_fault, fib_due::proofs::Untold::steps_stop), unfolding(fib_due::specs::Due::reply_at))]
 fn outcome_of<I: Inputs, O: Sink>(
     alloc: Global,
@@ -84,7 +84,7 @@ fn outcome_of<I: Inputs, O: Sink>(
     }
 }
 
-/// Writes the outcome's line to err, where a fault is passed over.
+/// Writes the outcome's line to err; a fault of err is passed over.
 pub fn tell<E: Sink>(outcome: Outcome, err: &mut E)
     ensures { TellsOf outcome (E.written err.old) (E.written err.new) (E.faults err.old)
         (E.faults err.new) }
@@ -94,7 +94,7 @@ pub fn tell<E: Sink>(outcome: Outcome, err: &mut E)
     }
 }
 
-/// The outcome, told to err.
+/// The outcome, with its line written to err.
 fn run_and_tell<I: Inputs, O: Sink, E: Sink>(
     alloc: Global,
     words: &[String],
@@ -134,14 +134,14 @@ fn run_and_tell<I: Inputs, O: Sink, E: Sink>(
     outcome
 }
 
-/// Does what the words say: reads the inputs that they name, and writes to `out` the rows of a run, the verdict on a printed text, the
-/// rows of a run in steps, whether texts say the same table, a checkpoint, what a router must change, or the verdict on what it was told
-/// to change.
+/// Does what the words say. It reads the inputs that they name, and writes its reply to `out`: the rows of a run, the verdict on
+/// a printed text, the rows of a run in steps, whether texts say the same table, a checkpoint, what a router must change, or the
+/// verdict on what it was told to change.
 ///
-/// What is due is a function of the words and of what the inputs hold, but for the text of a run in steps, which is that of one
-/// of the runs that its machine allows. The outcome is the due one, but that a fault of reading or want of memory may come
-/// before it, and a fault of writing in place of Done, CheckNo, MovesNo and Differ. Nothing is written to `out` before all is accepted. Every
-/// outcome but Done is told by one line to `err`, and a fault of `err` changes nothing.
+/// What is due is a function of the words and of what the inputs hold, except for the text of a run in steps, which is that of
+/// one of the runs that its machine allows. The outcome is the due one, except that a fault of reading or running out of memory
+/// may come before it, and a fault of writing in place of Done, CheckNo, MovesNo and Differ. Nothing is written to `out` before
+/// all is accepted. Every outcome but Done is reported by one line to `err`, and a fault of `err` changes nothing.
 ///
 /// It costs n log n in the octets read and the rows written, and the routes' number times the lengths of their prefixes. In
 /// memory are, at most, the asks, one line or record and a piece while an input is read, the candidates of all peers, the kept
@@ -156,25 +156,25 @@ pub fn run_fib<I: Inputs, O: Sink, E: Sink>(
     out: &mut O,
     err: &mut E,
 ) -> Outcome
-    // The outcome is the due one, but for faults and want of memory.
+    // The outcome is the due one, but for faults and running out of memory.
     ensures exact { Meets (due_by words.now (I.content inputs.old)) result }
 
     // A fault of reading has its cause in an input that was to be read, and nothing else leaves a count risen.
     ensures read { ReadsFrom (read_by words.now (I.content inputs.old)) (I.faults inputs.old)
         (I.faults inputs.new) result }
 
-    // Each input that the words name is read in order from its first octet on, each place once, and nothing is read after it failed
-    // or ended: asks or a script, then the list of VRPs, then the dump, then the updates, each to its end before the next; and
-    // nothing after the input that is refused. No read of an input is made once what was read of it before is to be refused: a line
-    // of the asks that has its line feed, a record that is whole or whose header is refused, an event. A name that stands for two
-    // inputs is read for each. So each of them may be a pipe.
+    // Each input that the words name is read in order from its first octet on, each place once, and nothing is read after it
+    // failed or ended. They come one after another, each to its end before the next: asks or a script, then the list of VRPs,
+    // then the dump, then the updates; and nothing is read after the input that is refused. No read of an input is made once what
+    // was read of it before is to be refused: a line of the asks that has its line feed, a record that is whole or whose header
+    // is refused, an event. A name that stands for two inputs is read for each. So each of them may be a pipe.
     ensures reads { Makes (I.reads inputs.old) (I.reads inputs.new)
         (ReadsAt (I.content inputs.old) (asked_by words.now) result) }
 
     // A fault of writing has its cause in out.
     ensures write { WritesBy (O.faults out.old) (O.faults out.new) result }
 
-    // Out has the due text at Done, CheckNo, MovesNo and Differ, a front of it at a fault of writing, and else nothing new.
+    // Out has the due text at Done, CheckNo, MovesNo and Differ, its first n octets at a fault of writing, and else nothing new.
     ensures out { Writes (text_due (due_by words.now (I.content inputs.old))) (O.written out.old)
         (O.written out.new) result }
 
@@ -182,17 +182,17 @@ pub fn run_fib<I: Inputs, O: Sink, E: Sink>(
     ensures err { TellsOf result (E.written err.old) (E.written err.new) (E.faults err.old)
         (E.faults err.new) }
 
-    // The words have the outcome, whether or not an input tells what it holds.
+    // The words have the outcome, whether or not the content of an input is known.
     ensures own { IsOf (asked_by words.now) result }
 
-    // Where the asks or the list of VRPs of a run, the text of a check, the script of a run in steps, the texts of a comparison or of
-    // a router, or the inputs of a checkpoint don't tell, all is as it is due of some that there could be; asks and a list that tell
-    // are just these.
+    // If the content of the asks or the list of VRPs of a run, the text of a check, the script of a run in steps, the texts of a
+    // comparison or of a router, or the inputs of a checkpoint isn't known, all is as it is due of some content that there could
+    // be; asks and a list whose content is known are just these.
     ensures some { FitsSome (I.content inputs.old) (asked_by words.now) (O.written out.old)
         (O.written out.new) result }
 
     // A run in steps: at Done out has the rows of a run of the machine of steps over the whole script, from the routes after the
-    // load. A look-up's answer is the longest match among the routes after exactly the events that were published to its address
+    // load. A lookup's answer is the longest match among the routes after exactly the events that were published to its address
     // at its first read. Too many hops and too small tries end it at the prepare of that event.
     ensures steps { FitsSteps (I.content inputs.old) (asked_by words.now) (O.written out.old)
         (O.written out.new) result }
@@ -200,41 +200,41 @@ pub fn run_fib<I: Inputs, O: Sink, E: Sink>(
     // No content changes.
     ensures same { I.content inputs.new ≡ I.content inputs.old }
 
-    // Where a count rose, the outcome says so.
+    // If a count rose, the outcome says so.
     ensures risen_input { (name : List ℕ) → I.faults inputs.old name < I.faults inputs.new name →
         result ≡ Outcome.ReadFault }
     ensures risen_out { O.faults out.old < O.faults out.new → result ≡ Outcome.WriteFault }
 
-    // With contents told and no count risen the due outcome comes, unless memory runs out.
+    // If the contents are known and no count rose, the due outcome comes, unless memory runs out.
     ensures complete { Completes (due_by words.now (I.content inputs.old))
         (OneRose (read_by words.now (I.content inputs.old)) (I.faults inputs.old)
         (I.faults inputs.new)) (Rose (O.faults out.old) (O.faults out.new)) result }
 
-    // What is due to be printed of a run: the changes add up to the table, the table sends every address where the routes send it,
-    // each answer is the longest match among the routes, and the least table sends every address where the routes send it
-    // and has no more entries in either family than any table that does.
+    // What is due to be printed of a run: the changes add up to the table. The table sends every address where the routes send
+    // it. Each answer is the longest match among the routes. The least table sends every address where the routes send it, and
+    // has no more entries in either family than any table that does.
     ensures sum { IfDue (due_by words.now (I.content inputs.old)) SumsUp }
     ensures forwards { IfDue (due_by words.now (I.content inputs.old)) Forwards }
     ensures answers { IfRan (due_by words.now (I.content inputs.old)) Answers }
     ensures least { IfDue (due_by words.now (I.content inputs.old)) HasLeast }
 
     // On the way: the changes stand in the order of their events, and up to each event add up to a table. It sends every address
-    // where the routes send it then, and after the load and after each snapshot it is a least table. Unless the fewest changes are
-    // asked for, after any other event it has the entries that it had before, but for those within the prefix of which the event
-    // changes the chosen hop, and no table that differs from the one before only there has fewer entries.
+    // where the routes send it then, and after the load and after each snapshot it is a least table. Unless the fewest changes
+    // are asked for, after any other event it has the entries that it had before, except within the prefix of which the event
+    // changes the chosen hop; and no table that differs from the one before only there has fewer entries.
     ensures kept { IfRan (due_by words.now (I.content inputs.old)) KeepsTables }
     ensures follows { IfRan (due_by words.now (I.content inputs.old)) Follows }
     ensures renewed { IfRan (due_by words.now (I.content inputs.old)) RenewsLeast }
     ensures fewest { IfRan (due_by words.now (I.content inputs.old)) RepairsFewest }
     ensures outside { IfRan (due_by words.now (I.content inputs.old)) RepairsWithin }
 
-    // Where the fewest changes are asked for: each event that changes a chosen hop has a row that tells how many changes it needs
+    // If the fewest changes are asked for: each event that changes a chosen hop has a row that says how many changes it needs
     // before its snapshot. They lead to a table that sends every address where the routes send it then, and no table that does so
     // differs from the one before at fewer prefixes. Else there are no such rows.
     ensures moves { IfRan (due_by words.now (I.content inputs.old)) MovesFewest }
 
-    // Where changes are told in steady order: a router that makes them one by one sends each address where the routes before the
-    // event at hand send it or where those after it do, whatever front of the changes it has made, and never back.
+    // If changes come in steady order: a router that makes them one by one sends each address where the routes before the
+    // event at hand send it or where those after it do, however many of them it has made, and never back.
     ensures steady { IfRan (due_by words.now (I.content inputs.old)) MissesNone }
 
     // Of the least tables it is the one that the best hops fix, with the kept table as the old one, whatever finds them; and all
@@ -246,12 +246,12 @@ pub fn run_fib<I: Inputs, O: Sink, E: Sink>(
     ensures certified { IfDue (due_by words.now (I.content inputs.old)) Certified }
 
     // What is due to be printed has its addresses: different numbers have different hops, each route has a hop and so its row,
-    // and every other number that is told is 0 or has a hop.
+    // and every other number that is printed is 0 or has a hop.
     ensures addressed { IfRan (due_by words.now (I.content inputs.old)) HasHops }
 
     // At Done of a run out has one text more, to which a check says yes: it is read again as rows with a certificate, whatever
-    // numbers the reader gives the hops. At a fault of writing it has a front of such a text. Where the inputs tell what they
-    // hold, the due text is such a text.
+    // numbers the reader gives the hops. At a fault of writing it has the first n octets of such a text. If the contents of the
+    // inputs are known, the due text is such a text.
     ensures printed { result ≡ Outcome.Done → IsRun (asked_by words.now) → AddsYes
         (O.written out.old) (O.written out.new) }
     ensures front { result ≡ Outcome.WriteFault → IsRun (asked_by words.now) → AddsFrontOfYes
@@ -267,12 +267,12 @@ pub fn run_fib<I: Inputs, O: Sink, E: Sink>(
     ensures due_saves { result ≡ Outcome.Done → IfSaved
         (due_by words.now (I.content inputs.old)) Restores }
 
-    // What is due of a run is judged by its list of VRPs, which is empty without the option: the announcements that are told as Invalid
-    // are exactly those that the list calls so, each with the first VRP that covers it, and the routes are those of the events in
-    // which each of them is its withdrawal.
+    // What is due of a run is judged by its list of VRPs, which is empty without the option. The announcements that are reported
+    // as Invalid are exactly those that the list calls so, each with the first VRP that covers it. The routes are those of the
+    // events in which each of them is its withdrawal.
     ensures judged { Judges (I.content inputs.old) (asked_by words.now) }
 
-    // A check that is due says yes exactly where the printed rows are a certificate, whoever wrote them. The printed least
+    // A check that is due says yes exactly if the printed rows are a certificate, whoever wrote them. The printed least
     // table then sends every address where the printed routes send it, and has no more entries in either family than any
     // table that does.
     ensures proved { IfChecked (due_by words.now (I.content inputs.old)) Decides }
@@ -282,16 +282,16 @@ pub fn run_fib<I: Inputs, O: Sink, E: Sink>(
     // the least address at which one differs, and the first text that does there.
     ensures compared { IfCompared (due_by words.now (I.content inputs.old)) Compares }
 
-    // What a router must change: the changes are possible one after another and make its table send every address where the routes
-    // send it, no table that does differs from its own at fewer prefixes, and the rows prove it in each family.
+    // What a router must change: the changes are possible one after another and make its table send every address where the
+    // routes send it. No table that does differs from its own at fewer prefixes, and the rows prove it in each family.
     ensures reroutes { IfMoved (due_by words.now (I.content inputs.old)) Reroutes }
 
-    // Where they are told in steady order: while the router makes them one by one, it sends each address where its table sent it or
+    // If they come in steady order: while the router makes them one by one, it sends each address where its table sent it or
     // where the routes send it, and never back.
     ensures reroutes_steadily { IfMoved (due_by words.now (I.content inputs.old)) ReroutesSteadily }
 
-    // What a router was told to change: a check of it that is due says yes exactly where it is all this, but for a steady order, and the
-    // rows beside it prove it, whoever wrote them.
+    // What a router was told to change: a check of it that is due says yes exactly if it is all this, except for a steady order,
+    // and the rows beside it prove it, whoever wrote them.
     ensures judges_moves { IfClaimed (due_by words.now (I.content inputs.old)) DecidesMoves }
 {
     run_and_tell(alloc, words, inputs, out, err)

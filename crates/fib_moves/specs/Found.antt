@@ -34,7 +34,7 @@ abbrev pub half_found : Bool → Option (Box RegionHops Global) → Option (Box 
 half_found b None x = x
 half_found b (Some s) x = cond b (out-RegionHops (box_value s)).high (out-RegionHops (box_value s)).low
 
--- where the place inherits h in the old table, that gives the answers in each part of a half that routes fill
+-- if the place inherits h in the old table, that gives the answers in each part of a half that routes fill
 abbrev pub HalvesGive : Place → ℕ → Type 0
 HalvesGive p h =
     (b : Bool) (d : ℕ) → suc d ≡ p.region.bits

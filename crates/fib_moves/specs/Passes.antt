@@ -17,7 +17,7 @@ use Rattle.fib_moves.specs.declared.down.Differing.{Differing}
 abbrev pub EndsThere : ℕ → (List Bool → ℕ) → Table → Type 0
 EndsThere d f T = (b : Bool) (h : ℕ) → (half b T ≡ []) × (half b (near_of d f T h) ≡ [])
 
--- at each prefix within p at which the region's old entries and the pass under h differ, both are added behind what there was
+-- at each prefix within p at which the region's old entries and the pass under h differ, both are added after what there was
 pub record ListsDiffering (p : Prefix) (s : Spot) (h : ℕ) (before after : Differing) : Type 0 where
   pub had : Table
   pub gets : Table

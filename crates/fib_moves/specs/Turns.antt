@@ -29,7 +29,7 @@ TurnCase s len t o n hop =
     ((t.prefix.len ≡ len) × (o ≡ None) × (n ≡ None) × (hop ≡ t.inherited))
     ⊎ ((t.prefix.len ≢ len) × BothOrNeither t.old (gets_at s t) o n × (hop ≡ inherit (gets_at s t) t.inherited))
 
--- the turn's entries are added behind what there was
+-- the turn's entries are added after what there was
 pub record IsTurned (s : Spot) (len : ℕ) (t : LastBlocked) (before after : Differing) (hop : ℕ) : Type 0 where
   pub o : Option ℕ
   pub n : Option ℕ

@@ -27,7 +27,7 @@ pub record IsStep (bit : Bool) (x y : Way) : Type 0 where
   pub comes : y.comes ≡ inherit (root x.place.region.entries) x.comes
   pub turn : y.turn ≡ turn_after bit (is_blocked bit y.place.region.bits x.place.region.entries) x y
 
--- the way is gone to q, where R are the routes of the family and T is its old table
+-- the way is gone to q, with the routes R of the family and its old table T
 pub record IsWay (f : Family) (R T : Table) (q : List Bool) (x : Way) : Type 0 where
   pub place : IsNodeOf x.place
   pub at : prefix_as x.at ≡ record { family = f; bits = q }

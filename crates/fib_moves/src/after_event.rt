@@ -60,7 +60,7 @@ fn list_event(
 ///
 /// # Errors
 ///
-/// No memory.
+/// Out of memory.
 pub fn near_after(alloc: Global, tree: &Tree, prefix: &Prefix) -> Result<Vec<Change>, AllocError>
     requires family { prefix.now.family ≡ tree.now.family }
     requires before { AlikeBefore (width tree.now.family) (prefix_as prefix.now).bits

@@ -19,7 +19,7 @@ pub enum AllowedHops {
 /// What two halves of a region allow together.
 #[derive(Drop)]
 pub struct JointAllowed {
-    /// The hops that both allow, or where there are none, those that either does.
+    /// The hops that both allow or, if there are none, those that either does.
     pub hops: AllowedHops,
     /// Whether no hop is allowed by both.
     pub apart: bool,
@@ -48,7 +48,7 @@ impl AllowedHops {
         }
     }
 
-    /// The least hop of those that are allowed, 0 where any is.
+    /// The least hop of those that are allowed, 0 if any is.
     pub fn least(&self) -> u16
         ensures { result ≡ least_allowed (allowed_as self.now) }
     {
@@ -62,7 +62,7 @@ impl AllowedHops {
     ///
     /// # Errors
     ///
-    /// No memory.
+    /// Out of memory.
     pub fn copied(&self, alloc: Global) -> Result<AllowedHops, AllocError>
         ensures { IfOk result (λ w. allowed_as w ≡ allowed_as self.now) }
     {
@@ -79,7 +79,7 @@ impl AllowedHops {
     ///
     /// # Errors
     ///
-    /// No memory.
+    /// Out of memory.
     pub fn joint(
         alloc: Global,
         low: AllowedHops,

@@ -4,11 +4,11 @@ ghost use Rattle.std.specs.Prelude.{◌≡◌, ◌+◌, cond, IfOk};
 
 use std::alloc::AllocError;
 
-/// The sum of two numbers of changes. A list of changes takes memory, so no memory suffices where the sum passes 64 bits.
+/// The sum of two numbers of changes. A list of changes takes memory, so no memory suffices if the sum passes 64 bits.
 ///
 /// # Errors
 ///
-/// No memory, where the sum is 2^64 or more.
+/// Out of memory, if the sum is 2^64 or more.
 pub fn sum(a: u64, b: u64) -> Result<u64, AllocError>
     ensures { IfOk result (λ n. n ≡ a + b) }
 {
@@ -19,7 +19,7 @@ pub fn sum(a: u64, b: u64) -> Result<u64, AllocError>
 ///
 /// # Errors
 ///
-/// No memory, as in [`sum`].
+/// Out of memory, as in [`sum`].
 pub fn one_more_if(more: bool, k: u64) -> Result<u64, AllocError>
     ensures { IfOk result (λ n. n ≡ cond more (k + 1) k) }
 {

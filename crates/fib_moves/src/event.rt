@@ -26,12 +26,12 @@ use fib_delta::{Change, between};
 use orig_tree::{Tree, TreeRegion};
 use std::alloc::{AllocError, Global};
 
-/// Adds the turn's entries in both tables if they differ, where it isn't the event's prefix itself, whose length and region these
+/// Adds the turn's entries in both tables if they differ and it isn't the event's prefix itself, whose length and region these
 /// are, with the hops that were found for its own entry. Returns what that prefix comes to inherit.
 ///
 /// # Errors
 ///
-/// No memory.
+/// Out of memory.
 pub fn list_turn(
     region: &TreeRegion<'_>,
     found: Option<&AllowedHops>,
@@ -82,7 +82,7 @@ fn list_event(
 ///
 /// # Errors
 ///
-/// No memory.
+/// Out of memory.
 pub fn near_at(alloc: Global, tree: &Tree, prefix: &Prefix) -> Result<Vec<Change>, AllocError>
     requires family { prefix.now.family ≡ tree.now.family }
     requires beside { AlikeBeside (width tree.now.family) (prefix_as prefix.now).bits

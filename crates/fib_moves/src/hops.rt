@@ -58,7 +58,7 @@ fn due_hops(
 ///
 /// # Errors
 ///
-/// No memory.
+/// Out of memory.
 pub fn may_inherit(
     alloc: Global,
     region: &TreeRegion<'_>,
@@ -74,7 +74,7 @@ pub fn may_inherit(
     }
 }
 
-/// The hop of a new entry where none stood, or where that one can't stay: none if what is inherited will do, else the least hop.
+/// The hop of a new entry if none stood, or if that one can't stay: none if what is inherited will do, else the least hop.
 fn put_hop(region: &TreeRegion<'_>, found: Option<&AllowedHops>, inherited: u16) -> Option<u16>
     requires { AreFound region.now.bits (spot_answers region.now) region.now.entries (option_copied found) }
     ensures { result ≡ new_entry (inner_set region.now.bits (spot_answers region.now)

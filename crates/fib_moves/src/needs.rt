@@ -21,7 +21,7 @@ use std::alloc::{AllocError, Global};
 /// What a region needs that has old entries strictly within it.
 #[derive(Drop)]
 pub(crate) struct RegionNeeds {
-    /// The hops that its own entry should have, or what it inherits where it has none.
+    /// The hops that its own entry should have, or what it inherits if it has none.
     pub(crate) hops: AllowedHops,
     /// How many changes strictly within it are needed then.
     pub(crate) k: u64,

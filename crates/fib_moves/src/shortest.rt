@@ -74,7 +74,7 @@ fn list_changes(
 ///
 /// # Errors
 ///
-/// No memory.
+/// Out of memory.
 pub fn near(alloc: Global, tree: &Tree) -> Result<Near, AllocError>
     ensures order { InPlace tree.now.entries × InPlace tree.now.routes }
     ensures changes { IfOk result (λ n. map change_as n.changes.items ≡ between tree.now.entries

@@ -11,7 +11,7 @@ pub record TakesCands {S : Type 0} (takes : S → List Cand → S → Type 0) (b
   pub are : map cand_as cands ≡ held
   pub took : takes before cands now
 
--- ---- a list takes them behind those that it has
+-- ---- a list takes them after those that it has
 
 pub no_cands : (a : List Cand) → a ≡ a ++ []
 no_cands a = sym (append-nil a)

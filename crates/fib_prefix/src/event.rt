@@ -19,14 +19,14 @@ pub struct Peer {
 pub struct Via {
     /// The peer.
     pub peer: Peer,
-    /// The path identifier, 0 where the peer sends none.
+    /// The path identifier, 0 if the peer sends none.
     pub id: u32,
 }
 
 /// What a peer says.
 #[derive(Clone, Copy, Debug, PartialEq, Eq)]
 pub enum Event {
-    /// A route of a prefix, with the length of its path, its next hop, and the AS in which it originates, where its path tells it
+    /// A route of a prefix, with the length of its path, its next hop, and the AS in which it originates, if its path says it
     /// (RFC 6811, section 2).
     Announce(Via, Prefix, u32, Addr, Option<u32>),
     /// A route is gone.

@@ -15,11 +15,11 @@ pub trait CandSink {
 
     ghost takes: { Self → List CodeCand → Self → Type 0 };
 
-    /// Takes a candidate, behind those that it took.
+    /// Takes a candidate, after those that it took.
     ///
     /// # Errors
     ///
-    /// No memory; then nothing is said of what it holds.
+    /// Out of memory; then nothing is said of what it holds.
     fn put(&mut self, cand: &Cand) -> Result<(), AllocError>
         requires { ready self.old }
         ensures ready { OnOk result (ready self.new) }

@@ -28,7 +28,7 @@ of_change hops c = change_row hops c.0 c.1
 abbrev pub of_moves : ℕ × ℕ → PrintedRow
 of_moves m = moves_row m.0 m.1
 
--- the hop of an address, and then how many nodes its look-up visits
+-- the hop of an address, and then how many nodes its lookup visits
 abbrev pub of_answer : List Address → Answer → List PrintedRow
 of_answer hops a = answer_row a.addr (hop_at hops a.hop) ∷ visits_row a.addr a.visits ∷ []
 

@@ -14,7 +14,7 @@ use Rattle.fib_report.specs.declared.run.Invalid as code_invalid
 use Rattle.fib_report.specs.declared.run.Moves as code_moves
 use Rattle.fib_report.specs.declared.run.Run as code_run
 
--- an address that was asked for, the number of its hop, and how many nodes its look-up visits
+-- an address that was asked for, the number of its hop, and how many nodes its lookup visits
 pub record Answer : Type 0 where
   pub addr : Address
   pub hop : ℕ
@@ -31,7 +31,7 @@ invalid_as i = (record { prefix = prefix_as i.prefix; peer = addr_as i.peer; pee
 abbrev pub moves_as : code_moves.Moves → ℕ × ℕ
 moves_as m = (m.event, m.count)
 
--- What a run tells: the routes, the Invalid announcements with the VRPs that cover them, the changes with their events' numbers, the number of each event with that of the changes it needed, the answers, the table, the least table, the certificate that it is least, and what was counted.
+-- What a run gives: the routes, the Invalid announcements with the VRPs that cover them, the changes with their events' numbers, the number of each event with that of the changes it needed, the answers, the table, the least table, the certificate that it is least, and what was counted.
 pub record Told : Type 0 where
   pub routes : Entries
   pub invalid : List (Announced × Vrp)

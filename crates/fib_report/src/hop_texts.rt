@@ -1,7 +1,7 @@
 //! The texts of next hops, by their numbers.
 //!
 //! A run has few hops and writes each in many rows, so their texts are made once and then copied. Making them costs their length and
-//! 49 octets of memory a hop. Where memory runs out fewer are kept; the text of a hop that isn't kept is made when it is asked for.
+//! 49 octets of memory a hop. If memory runs out fewer are kept; the text of a hop that isn't kept is made when it is asked for.
 
 ghost use Rattle.std.specs.Prelude.{◌≡◌, ◌↔◌, ◌+◌, ◌≤◌, ◌++◌, length, option_map, IfSome, IsSome, IsTrue};
 ghost use Rattle.fib_addr.specs.Hops.{hop_at};

@@ -1,9 +1,9 @@
 //! The report of a run as rows of text.
 //!
-//! A run is a few lists, routes, Invalid announcements, changes with their events' numbers, how many each event needed, answers to look-ups, a table, a least table and its
-//! certificate, and a few counts. Each item is a row, its fields joined by commas and ended by a line feed; the format is our
-//! own, and stands in `rows`. Contracts see the run as the model's lists, and its text as the text of the model's printed rows,
-//! which a checker reads again.
+//! A run is a few lists, routes, Invalid announcements, changes with their events' numbers, how many each event needed, answers
+//! to lookups, a table, a least table and its certificate, and a few counts. Each item is a row, its fields joined by commas and
+//! ended by a line feed; the format is our own, and stands in `rows`. Contracts see the run as the model's lists, and its text as
+//! the text of the model's printed rows, which a checker reads again.
 //!
 //! Rows are written by csv's writer, without quotes, since no field holds a comma, a quote or a line end. Rows of a prefix, of which a
 //! run has millions, are put together in a buffer on the stack and go to the writer as one field. Writing is linear in the rows; only

@@ -188,7 +188,7 @@ pub(crate) fn put_answer<W: Write + Drop>(
     put_fields(out, &[b"answer", addr, hop])
 }
 
-/// Writes how many nodes the look-up of an address visits.
+/// Writes how many nodes the lookup of an address visits.
 pub(crate) fn put_visits<W: Write + Drop>(
     out: &mut Writer<W>,
     addr: &Addr,

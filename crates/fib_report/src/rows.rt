@@ -4,9 +4,9 @@
 //!     invalid,PREFIX,PEERADDR,PEERAS,ORIGIN,VPREFIX,MAXLEN,AS
 //!     change,EVENT,+,PREFIX,HOP    with = for a Replace
 //!     change,EVENT,-,PREFIX        for a Remove
-//!     moves,EVENT,COUNT            behind all changes, where the fewest are asked for
+//!     moves,EVENT,COUNT            after all changes, if the fewest are asked for
 //!     answer,ADDRESS,HOP
-//!     visits,ADDRESS,COUNT         behind the answer of each address
+//!     visits,ADDRESS,COUNT         after the answer of each address
 //!     table,PREFIX,HOP
 //!     least,PREFIX,HOP
 //!     cert,leaf,PREFIX,HOP
@@ -14,8 +14,8 @@
 //!     cert,bound,FAMILY,COUNT      with 4 or 6 for the family
 //!     report,NAME,COUNT            for records, skipped, events, routes, entries, nodes, leaves and treated
 //!
-//! ORIGIN is a number, or `none` where the announcement has no origin. HOP is the hop's address. Where no hop has the number it is `none` in an answer and a leaf, and `drop` in a change and a
-//! table; a route without a hop has no row.
+//! ORIGIN is a number, or `none` if the announcement has no origin. HOP is the hop's address. If no hop has the number it is
+//! `none` in an answer and a leaf, and `drop` in a change and a table; a route without a hop has no row.
 
 ghost use Rattle.std.specs.Prelude.{◌≡◌, ◌≤◌, [], ◌∷◌, flat_map, length, map, IfOk, OnOk, Some};
 ghost use Rattle.std.specs.List.{AllByRecursion};
@@ -189,7 +189,7 @@ pub(crate) fn put_moves_row<W: Write + Drop>(
     put_moves(out, moves.event, moves.count)
 }
 
-/// Writes the hop of an address, and then how many nodes its look-up visits.
+/// Writes the hop of an address, and then how many nodes its lookup visits.
 fn put_lookup<W: Write + Drop>(
     out: &mut Writer<W>,
     answer: &Answer,
@@ -276,7 +276,7 @@ pub fn row_writer(alloc: Global) -> Writer<Vec<u8>>
 }
 
 /// The text of a row of these fields: commas between them, and a line feed. Two fields at least, since csv writes a row of one
-/// empty field as two quotes. A reader finds the fields again where none holds a comma or a line end. An `Err` means that memory
+/// empty field as two quotes. A reader finds the fields again if none holds a comma or a line end. An `Err` means that memory
 /// ran out.
 pub fn row_text(alloc: Global, fields: &[&[u8]]) -> Result<Vec<u8>, AllocError>
     requires { 2 ≤ length fields.now }

@@ -1,4 +1,4 @@
-//! What a run tells.
+//! What a run gives.
 //!
 //! Plain lists, in the order in which they are to be written. Hops stand as their numbers in a `HopTable`, which the report
 //! is given beside the run. `specs/Views.antt` says what contracts see of it.
@@ -61,14 +61,14 @@ pub struct Moves {
 pub struct Answer {
     /// The address.
     pub addr: Addr,
-    /// Its hop's number, `Hop::NONE` where no hop was found.
+    /// Its hop's number, `Hop::NONE` if no hop was found.
     pub hop: Hop,
-    /// How many nodes its look-up visits.
+    /// How many nodes its lookup visits.
     pub visits: u8,
 }
 
-/// What a run tells: the routes that it ended with, the announcements that are Invalid, the changes with their events, how many each
-/// event needed, the answers, the table, the least table with its certificate, and the counts.
+/// What a run gives: the routes that it ended with, the announcements that are Invalid, the changes with their events, how many
+/// each event needed, the answers, the table, the least table with its certificate, and the counts.
 #[derive(Debug, Drop)]
 pub struct Run {
     /// The routes after the last event, in the order of prefixes.

@@ -1,7 +1,7 @@
 //! The text of a run, written section by section.
 //!
 //! A section's rows are written from a list that can be dropped then, or one by one as its entries or the certificate's rows come.
-//! The text is made in the memory in which it is handed out, behind csv's buffer; it costs its rows' length.
+//! The text is made in the memory in which it is returned, after csv's buffer; it costs its rows' length.
 
 ghost use Rattle.std.specs.Prelude.{◌≡◌, [], ◌++◌, ◌∷◌, flat_map, map, IfOk, OnOk};
 ghost use Rattle.fib_addr.specs.Views.{entry_as};

@@ -36,7 +36,7 @@ impl<'a> RunText<'a> {
 impl<'a> SectionText<'a> {
     ghost use Rattle.fib_report.specs.SectionRows.{run_in, taken_in};
 
-    /// The text behind the section, and how many entries the section took.
+    /// The text after the section, and how many entries the section took.
     pub fn end(self) -> (RunText<'a>, u64)
         ensures text { result.0 ≡ run_in self.entry }
         ensures count { result.1 ≡ taken_in self.entry }

@@ -32,9 +32,9 @@ fn text_of_run(alloc: Global, run: &Run, hops: &HopTable) -> Result<Vec<u8>, All
 }
 
 /// Appends the rows of a run to a text: first the routes, then the Invalid announcements, the changes, how many each event needed, the answers, the table, the least
-/// table, its certificate and the report. Where the hop table does not hold a hop's number, an answer and a leaf say `none`, a change and a table `drop`,
-/// and a route has no row. An `Err` changes nothing and means that memory ran out, as does each failure of csv's writer, which
-/// writes to memory here. Each row that was written is one that a checker reads as it is.
+/// table, its certificate and the report. If the hop table does not hold a hop's number, an answer and a leaf say `none`, a
+/// change and a table `drop`, and a route has no row. An `Err` changes nothing and means that memory ran out, as does each
+/// failure of csv's writer, which writes to memory here. Each row that was written is one that a checker reads as it is.
 pub fn write_run(
     alloc: Global,
     out: &mut Vec<u8>,

@@ -16,13 +16,13 @@ as_not_begun engine.HopsFull = error.HopsFull
 as_not_begun (engine.TrieFull t) = error.TrieFull t
 as_not_begun engine.NoMemory = error.NoMemory
 
--- what is said where a family's live trie isn't made ready
+-- what is said if a family's live trie isn't made ready
 abbrev pub IsSaidOf : NotReady → NotBegun → Type 0
 IsSaidOf why.Memory e = e ≡ error.NoMemory
 IsSaidOf (why.TooMuch t) e = ⊥
 IsSaidOf (why.Pinned need cursor arena largest) e = e ≡ error.Pinned need cursor arena largest
 
--- why a family's live trie isn't made ready for an event that fits: no memory, or pinned by the oldest lookup
+-- why a family's live trie isn't made ready for an event that fits: out of memory, or pinned by the oldest lookup
 abbrev pub IsHeldUp : Oldest → NotBegun → Living → Entries → Entries → Type 0
 IsHeldUp who error.HopsFull l L M = ⊥
 IsHeldUp who (error.TrieFull t) l L M = ⊥

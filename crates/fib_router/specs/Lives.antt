@@ -78,7 +78,7 @@ abbrev pub AreNewLives : EngineState → code_lives.Lives → Type 0
 AreNewLives held t = IsNewLive V4 held t.v4 × IsNewLive V6 held t.v6
 
 -- ---- a family's live trie through an event
--- What stays of it where its update is made ready, or isn't, with its oldest open lookup: its sizes and its time, what the open lookups
+-- What stays of it if its update is made ready, or isn't, with its oldest open lookup: its sizes and its time, what the open lookups
 -- read, and what was replaced before.
 pub record Readies (who : Oldest) (l r : Living) : Type 0 where
   pub shape : HasShapeOf l r
@@ -122,7 +122,7 @@ abbrev pub IsPreparedBy : Oldest → Family → Option (Family × Pending) → L
 IsPreparedBy who f None l r L M = ⊥
 IsPreparedBy who f (Some p) l r L M = (p.0 ≡ f) × IsPrepared who p.1 l r L M
 
--- what stays where a store is made, or the update is forgotten
+-- what stays if a store is made, or the update is forgotten
 pub record CarriesOn (l r : Living) : Type 0 where
   pub shape : HasShapeOf l r
   pub time : r.selected.time ≡ l.selected.time
@@ -152,7 +152,7 @@ pub record GoesBy (l r : Living) : Type 0 where
 abbrev pub RetiresOther : Living → Living → Type 0
 RetiresOther l r = r.state ≡ retired_at_end (suc l.selected.time) l.state
 
--- what stays where some of its stores, or none, were made
+-- what stays if some of its stores, or none, were made
 pub record StoresOn (l r : Living) : Type 0 where
   pub carries : CarriesOn l r
   pub pending : is_pending r ≡ is_pending l

@@ -28,7 +28,7 @@ pub record Routing : Type 0 where
   pub begun : Option Elem
   pub lives : code_lives.Lives
 
--- The entries that are published to an address: the routes, or where a store that was made covers its slot those after the event that
+-- The entries that are published to an address: the routes or, if a store that was made covers its slot, those after the event that
 -- is begun.
 abbrev pub published_to : Routing → Addr → Entries
 published_to r a = published_entries (live_of a.family r.lives) (engine_routes r.held) (routes_once r.begun r.held) a
@@ -69,7 +69,7 @@ stores_made_by (Some p) t = made_of (live_of p.0 t)
 abbrev pub stores_made_in : code_begun.Begun → Routing → ℕ
 stores_made_in b r = stores_made_by b.pending r.lives
 
--- An event is refused as pinned just where its family's trie is: that of the prefix at which it changes the chosen hop.
+-- An event is refused as pinned exactly if its family's trie is: that of the prefix at which it changes the chosen hop.
 abbrev pub IsPinnedFor : Oldest → Elem → Routing → NotBegun → Type 0
 IsPinnedFor who e r error.HopsFull = Unit {0}
 IsPinnedFor who e r (error.TrieFull t) = Unit {0}

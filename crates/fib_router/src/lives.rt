@@ -115,17 +115,17 @@ fn ready(
 }
 
 impl Lives {
-    /// Those of the routes, where no event is planned.
+    /// Those of the routes, if no event is planned.
     ///
     /// # Errors
     ///
-    /// No memory.
+    /// Out of memory.
     pub(crate) fn new(alloc: Global, lower: &Staged) -> Result<Lives, AllocError>
         requires { lower.now.planned ≡ None }
         ensures lives { IfOk result (AreLives lower.now.held None) }
         ensures first { IfOk result (AreNewLives lower.now.held) }
     {
-        // they have room, which its needs tell
+        // they have room, as its needs say
         let _needs = lower.needs();
         let sizes = lower.sizes();
         let v4 = filled(alloc, lower.tree(Family::V4), &sizes)?;
@@ -148,7 +148,7 @@ impl Lives {
     ///
     /// # Errors
     ///
-    /// No memory, or pinned by an open lookup. But for what was given back, all is as it was.
+    /// Out of memory, or pinned by an open lookup. But for what was given back, all is as it was.
     pub(crate) fn prepare(
         &mut self,
         lower: &Staged,
@@ -191,7 +191,7 @@ impl Lives {
         }
     }
 
-    /// Makes the next store of a family's pending update; false where none is left.
+    /// Makes the next store of a family's pending update; false if none is left.
     pub(crate) fn store(&mut self, family: Family, pending: &mut Pending) -> bool
         requires { IsPendingOf family pending.old self.old }
         ensures pending { IsPendingOf family pending.new self.new }
@@ -216,7 +216,7 @@ impl Lives {
     ///
     /// # Errors
     ///
-    /// Stores are left: the token is handed back, and nothing has changed.
+    /// Stores are left: the token is returned, and nothing has changed.
     pub(crate) fn end(&mut self, family: Family, pending: Pending) -> Result<(), Pending>
         requires token { IsPendingOf family pending self.old }
         requires time { (live_of family self.old).selected.time < 18446744073709551615 }
@@ -243,7 +243,7 @@ impl Lives {
     ///
     /// # Errors
     ///
-    /// A store was made: the token is handed back, and nothing has changed.
+    /// A store was made: the token is returned, and nothing has changed.
     pub(crate) fn cancel(&mut self, family: Family, pending: Pending) -> Result<(), Pending>
         requires { IsPendingOf family pending self.old }
         ensures late { IfErr result (λ p. (p ≡ pending) × (self.new ≡ self.old)

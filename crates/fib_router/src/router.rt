@@ -42,7 +42,7 @@ use std::sync::ledger::Ledger;
 /// The token of an event that is begun, which `Router::end` or `Router::cancel` spends.
 pub struct Begun {
     planned: Planned,
-    // the update of its family's trie; none where it changes no chosen hop
+    // the update of its family's trie; none if it changes no chosen hop
     pending: Option<(Family, Pending)>,
 }
 
@@ -50,7 +50,7 @@ impl Begun {
     ghost use Rattle.std.specs.Prelude.{◌≡◌};
     ghost use Rattle.fib_router.specs.Router.{begun_hop};
 
-    /// The hop that the event's end will number, with its number; none where it brings no hop that has none yet.
+    /// The hop that the event's end will number, with its number; none if it brings no hop that has none yet.
     pub fn brings(&self) -> Option<(Hop, Addr)>
         ensures { result ≡ begun_hop self.now }
     {
@@ -85,7 +85,7 @@ impl Router {
     ///
     /// # Errors
     ///
-    /// No memory.
+    /// Out of memory.
     pub fn new(alloc: Global, engine: Engine) -> Result<Router, AllocError>
         requires { engine.loaded ≡ true }
         ensures held { IfOk result (λ r. r.held ≡ engine) }
@@ -97,15 +97,15 @@ impl Router {
         Ok(Router { lower, lives })
     }
 
-    /// Begins an elementary event, where none is begun, and takes all memory that it needs. Of its family's lookups that go on the
-    /// oldest is told. Nothing is seen of it yet: candidates, hops and the kept table change at its end, and what a lookup reads as
-    /// its words are stored. An event that changes no chosen hop touches no trie.
+    /// Begins an elementary event, if none is begun, and takes all memory that it needs. Of its family's lookups that go on the
+    /// oldest is given. Nothing is seen of it yet: candidates, hops and the kept table change at its end, and what a lookup reads
+    /// as its words are stored. An event that changes no chosen hop touches no trie.
     ///
     /// # Errors
     ///
-    /// `HopsFull` exactly where the event brings one different hop too many, else `TrieFull` exactly where tries of the routes
-    /// after it need more than an arena has, of which it names the first, else `Pinned` exactly where its family's trie is to wait for
-    /// the oldest lookup; or no memory. But for what was given back in that trie, all is as it was.
+    /// `HopsFull` exactly if the event brings one different hop too many, else `TrieFull` exactly if tries of the routes
+    /// after it need more than an arena has, of which it names the first, else `Pinned` exactly if its family's trie is to wait
+    /// for the oldest lookup; or out of memory. But for what was given back in that trie, all is as it was.
     pub fn begin(&mut self, elem: &Elem, oldest: Oldest) -> Result<Begun, NotBegun>
         requires rest { self.old.begun ≡ None }
         requires few { self.old.held.events + 1 < 2 ^ 64 }
@@ -172,7 +172,7 @@ impl Router {
         }
     }
 
-    /// Makes the next store of the event that is begun; false where none is left.
+    /// Makes the next store of the event that is begun; false if none is left.
     pub fn store(&mut self, begun: &mut Begun) -> bool
         requires { IsBegunIn begun.old self.old }
         ensures begun { IsBegunIn begun.new self.new }
@@ -196,11 +196,11 @@ impl Router {
         }
     }
 
-    /// The event that is begun is over: it is counted, and gives its changes, as `Engine::apply` tells them.
+    /// The event that is begun is over: it is counted, and returns its changes, as `Engine::apply` does.
     ///
     /// # Errors
     ///
-    /// Stores are left: the token is handed back, and nothing has changed.
+    /// Stores are left: the token is returned, and nothing has changed.
     pub fn end(&mut self, begun: Begun) -> Result<EventChanges, Begun>
         requires { IsBegunIn begun self.old }
         ensures left { IfErr result (λ b. (b ≡ begun) × (self.new ≡ self.old)
@@ -270,7 +270,7 @@ impl Router {
         }
     }
 
-    /// Takes an elementary event at once, where no lookup goes on: begins it, makes its stores and ends it.
+    /// Takes an elementary event at once, if no lookup goes on: begins it, makes its stores and ends it.
     ///
     /// # Errors
     ///
@@ -316,7 +316,7 @@ impl Router {
     ///
     /// # Errors
     ///
-    /// A store was made: the token is handed back, and nothing has changed.
+    /// A store was made: the token is returned, and nothing has changed.
     pub fn cancel(&mut self, begun: Begun) -> Result<(), Begun>
         requires { IsBegunIn begun self.old }
         ensures late { IfErr result (λ b. (b ≡ begun) × (self.new ≡ self.old)
@@ -377,11 +377,11 @@ impl Router {
         self.lower.hops()
     }
 
-    /// The event as elementary events, as `Engine::elementary` tells it.
+    /// The event as elementary events, as `Engine::elementary` returns it.
     ///
     /// # Errors
     ///
-    /// No memory.
+    /// Out of memory.
     pub fn elementary(&self, event: &Event) -> Result<Vec<Elem>, AllocError>
         ensures { IfOk result (λ elems. map elem_as elems.items
             ≡ elems_of self.now.held.candidates (event_as event.now)) }
@@ -393,7 +393,7 @@ impl Router {
     ///
     /// # Errors
     ///
-    /// No memory.
+    /// Out of memory.
     pub fn routes(&self) -> Result<Vec<Entry>, AllocError>
         ensures { IfOk result (λ v. map entry_as v.items ≡ engine_routes self.now.held) }
     {
@@ -404,7 +404,7 @@ impl Router {
     ///
     /// # Errors
     ///
-    /// No memory.
+    /// Out of memory.
     pub fn table(&self) -> Result<Vec<Entry>, AllocError>
         ensures { IfOk result (λ v. map entry_as v.items ≡ self.now.held.table) }
     {
@@ -415,7 +415,7 @@ impl Router {
     ///
     /// # Errors
     ///
-    /// No memory.
+    /// Out of memory.
     pub fn least(&self) -> Result<Fresh, AllocError>
         requires { self.now.begun ≡ None }
         ensures table { IfOk result (λ v. map entry_as v.table.items

@@ -36,11 +36,11 @@ AreSorted = IsSortedByKey (λ (r : Numbered). prefix_as (prefix_of r)) prefix_cm
 abbrev pub stands_up_to : Prefix → Numbered → Bool
 stands_up_to q r = is_le (prefix_cmp (prefix_as (prefix_of r)) q)
 
--- so many stand up to q, and the others behind it
+-- n stand up to q, and the others after it
 abbrev pub IsVrpPlace : Prefix → List Numbered → ℕ → Type 0
 IsVrpPlace q = IsPartitionPoint (λ r. stands_up_to q r ≡ true) (λ r. stands_up_to q r ≡ false)
 
--- the first so many stand up to q
+-- the first n stand up to q
 pub record AreUpTo (q : Prefix) (sorted : List Numbered) (count : ℕ) : Type 0 where
   pub few : count ≤ length sorted
   pub each : (i : ℕ) (r : Numbered) → i < count → stands_up_to q (get_or sorted i r) ≡ true

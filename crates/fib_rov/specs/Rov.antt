@@ -30,9 +30,9 @@ decided None None = NotFound
 abbrev pub state_of : List Vrp → Prefix → Option ℕ → State
 state_of vrps p origin = decided (position (matches p origin) vrps) (position (covers_route p) vrps)
 
--- ---- what is left of an event where Invalid routes are dropped by policy (RFC 6811, 3)
+-- ---- what is left of an event if Invalid routes are dropped by policy (RFC 6811, 3)
 
--- in this state of a route: its withdrawal with the number of the VRP where it is Invalid, else its announcement
+-- in this state of a route: its withdrawal with the number of the VRP if it is Invalid, else its announcement
 abbrev pub left_in : State → Event → Event → Event × Option ℕ
 left_in (Invalid n) announced withdrawn = (withdrawn, Some n)
 left_in (Valid n) announced withdrawn = (announced, None)

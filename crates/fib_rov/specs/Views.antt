@@ -8,6 +8,6 @@ use Rattle.fib_rov.specs.declared.vrp.Vrp as code
 abbrev pub vrp_as : code.Vrp → Vrp
 vrp_as v = record { prefix = prefix_as v.prefix; maxlen = v.maxlen; asn = v.asn }
 
--- whether it matches a route of so many bits with this origin, if it covers it
+-- whether it matches a route of n bits with this origin, if it covers it
 abbrev pub allows : ℕ → Option ℕ → code.Vrp → Bool
 allows len origin v = not (nat_lt v.maxlen len) && is_from origin v.asn

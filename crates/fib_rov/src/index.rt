@@ -1,7 +1,7 @@
 //! The index of a list of VRPs: they stand in the order of their prefixes, each with a link to the last one before it whose prefix
 //! contains its own and is another.
 //!
-//! A VRP that covers a prefix doesn't stand behind the prefix's place in this order, and covers all prefixes up to that place. So
+//! A VRP that covers a prefix doesn't stand after the prefix's place in this order, and covers all prefixes up to that place. So
 //! whatever covers the prefix is found from its place by going back: by links, while VRPs don't cover it, which takes a step for each
 //! length at most; and then from each that covers it to the one before it of the same prefix, or else by its link.
 

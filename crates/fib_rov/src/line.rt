@@ -11,7 +11,7 @@ use fib_addr::{Prefix, read_number};
 use printed_text::fields::{Fields, prefix_field, vrp_fields};
 use printed_text::why;
 
-/// Why a line is no VRP beside what `printed_text::why` tells: MAXLEN is below the prefix's length or above its family's width.
+/// Why a line is no VRP beside what `printed_text::why` says: MAXLEN is below the prefix's length or above its family's width.
 pub const BAD_MAXLEN: u8 = 7;
 
 /// MAXLEN, below 256.

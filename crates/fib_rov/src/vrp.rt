@@ -6,7 +6,8 @@ ghost use Rattle.fib_rov.specs.Views.{allows};
 
 use fib_addr::Prefix;
 
-/// A validated ROA payload (RFC 6811, section 2): the AS may originate the prefix, and prefixes within it of at most so many bits.
+/// A validated ROA payload (RFC 6811, section 2): the AS may originate the prefix, and prefixes within it of at most `maxlen`
+/// bits.
 #[derive(Clone, Copy, Debug, PartialEq, Eq)]
 pub struct Vrp {
     /// The prefix.
@@ -28,7 +29,7 @@ fn is_origin(origin: Option<u32>, asn: u32) -> bool
 }
 
 impl Vrp {
-    /// Whether it matches a route of so many bits with this origin, if it covers it.
+    /// Whether it matches a route of `len` bits with this origin, if it covers it.
     pub(crate) fn allows(&self, len: u8, origin: Option<u32>) -> bool
         ensures { result ≡ allows len origin self.now }
     {

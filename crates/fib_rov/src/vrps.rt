@@ -111,7 +111,7 @@ impl Vrps {
     ///
     /// # Errors
     ///
-    /// No memory.
+    /// Out of memory.
     pub fn new(alloc: Global, list: Vec<Vrp>) -> Result<Vrps, AllocError>
         ensures { IfOk result (λ v. v ≡ map vrp_as list.items) }
     {
@@ -129,7 +129,8 @@ impl Vrps {
     ///
     /// # Errors
     ///
-    /// `BadRow` names the first line that is neither empty nor a VRP, and says why (`printed_text::why` or `BAD_MAXLEN`); or no memory.
+    /// `BadRow` names the first line that is neither empty nor a VRP, and says why (`printed_text::why` or `BAD_MAXLEN`); or out
+    /// of memory.
     pub fn read(alloc: Global, text: &[u8]) -> Result<Vrps, RovError>
         ensures { IsListRead result (vrps_in text.now) }
     {
@@ -154,9 +155,9 @@ impl Vrps {
         decide(&self.list, &self.sorted, &self.links, prefix, origin)
     }
 
-    /// What is left of an event where routes that are Invalid are dropped (RFC 6811, section 3): an announcement of such a route is the
-    /// withdrawal of its way and prefix, with the number of the first VRP that covers it; any other event stays as it is. It costs what
-    /// `state` does, and takes no memory.
+    /// What is left of an event if routes that are Invalid are dropped (RFC 6811, section 3). An announcement of such a route is
+    /// the withdrawal of its way and prefix, with the number of the first VRP that covers it. Any other event stays as it is. It
+    /// costs what `state` does, and takes no memory.
     pub fn judge(&self, event: &Event) -> (Event, Option<u64>)
         ensures { (event_as result.0, result.1) ≡ judged_by_vrps self.now (event_as event.now) }
     {
@@ -206,7 +207,7 @@ impl Vrps {
     ///
     /// # Errors
     ///
-    /// No memory.
+    /// Out of memory.
     pub fn judge_all(
         &self,
         events: &mut [Event],

@@ -1,4 +1,5 @@
-//! With the fewest changes asked for: each event that changes a chosen hop has a row, and where a repair would do less the changes differ.
+//! With the fewest changes asked for: each event that changes a chosen hop has a row, and if a repair would do less the changes
+//! differ.
 
 use crate::harness::{ALL, Expected, FIRST, Given, Rows, WITH_FEWEST, compare};
 use crate::records::{
@@ -57,7 +58,7 @@ const LOST_FEWEST: Rows<'static> = &[
     COUNTS_OF_LOST,
 ];
 
-/// The other half comes by the same next hop: an entry above both answers for it, where a repair would add the half.
+/// The other half comes by the same next hop: an entry above both answers for it, while a repair would add the half.
 const UPPER_HALF_FEWEST: Rows<'static> = &[
     HALVES_ROUTES,
     &[

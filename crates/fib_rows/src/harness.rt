@@ -19,7 +19,7 @@ pub type Rows<'a> = &'a [&'a [&'a str]];
 pub struct Given<'a> {
     pub words: &'a [&'a str],
     pub dump: &'a [Record<'a>],
-    // so many octets of the dump are there
+    // this many octets of the dump are there
     pub dump_len: usize,
     pub updates: &'a [Record<'a>],
     pub asks: &'a [u8],
@@ -40,7 +40,7 @@ pub struct Expected<'a> {
     pub outcome: Outcome,
     pub status: u8,
     pub out: Rows<'a>,
-    // so many octets of the rows are there
+    // this many octets of the rows are there
     pub out_len: usize,
     pub err: &'a [u8],
 }
@@ -151,7 +151,7 @@ pub(crate) fn text_of(alloc: Global, rows: Rows) -> Result<Vec<u8>, Fail> {
     Ok(text)
 }
 
-/// The inputs `dump`, `updates`, `asks`, `script` and `printed`; the dump isn't held where it has no records.
+/// The inputs `dump`, `updates`, `asks`, `script` and `printed`; the dump isn't held if it has no records.
 pub(crate) fn inputs_of(alloc: Global, given: &Given) -> Result<MemInputs, Fail> {
     let mut names = Vec::new(alloc);
     let asks = Vec::from_slice(alloc, given.asks)?;

@@ -7,7 +7,7 @@ use crate::texts::ROWS_OF_TEN;
 use fib_main::{Outcome, Which};
 use std::test::Fail;
 
-/// The reads of the first run where each gives one octet: 18 of the asks and 81 of the dump, and one at the end of each.
+/// The reads of the first run if each gives one octet: 18 of the asks and 81 of the dump, and one at the end of each.
 const READS: u64 = 101;
 
 /// The octets of its rows.

@@ -6,7 +6,7 @@ use crate::saves::{add_input, run_on};
 use std::test::Fail;
 
 /// A list, and what a run on one route says of it: the status, the first line of its rows, how many elementary events it counts, and
-/// the line that tells its outcome.
+/// the line that reports its outcome.
 #[derive(Clone, Copy)]
 struct Judged<'a> {
     dump: &'a [&'a [&'a str]],

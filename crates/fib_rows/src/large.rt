@@ -53,7 +53,7 @@ fn dump_of(alloc: Global, count: u16) -> Result<Vec<u8>, Fail> {
     Ok(dump)
 }
 
-/// A dump of so many routes, and updates of these records.
+/// A dump of `routes` routes, and updates of these records.
 fn large_inputs(alloc: Global, routes: u16, updates: &[Record]) -> Result<MemInputs, Fail> {
     let mut names = Vec::new(alloc);
     names.push((String::from_str(alloc, "dump")?, dump_of(alloc, routes)?))?;
@@ -119,7 +119,7 @@ fn an_update_of_all_addresses_in_steps(rt: HostRuntime) -> Result<(), Fail> {
     Ok(())
 }
 
-/// Adds a row of a run in steps, behind those so far.
+/// Adds a row of a run in steps, after those so far.
 fn push_row(rows: &mut Vec<u8>, count: &mut u64, row: &[&str]) -> Result<(), Fail> {
     *count = count.saturating_add(1);
     let mut buffer = Buffer::new();

@@ -1,4 +1,4 @@
-//! The top call over memory: what follows where nothing can fail, and the rows of the tests.
+//! The top call over memory: what follows if nothing can fail, and the rows of the tests.
 #![tactic(auto)]
 
 ghost use Rattle.std.specs.Prelude.{◌≡◌, List, ℕ, map, Ok, Some, ◌++◌, ◌⊎◌};

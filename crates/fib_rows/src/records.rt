@@ -1,7 +1,7 @@
 //! The records of the rows in hexadecimal digits, field by field, as RFC 6396, sections 2, 4.3 and 4.4, and RFC 4271, section
 //! 4.3, have them.
 
-/// The header of a RIB_IPV4_UNICAST record with one entry behind a prefix of one octet: Timestamp, Type, Subtype, Length.
+/// The header of a RIB_IPV4_UNICAST record with one entry after a prefix of one octet: Timestamp, Type, Subtype, Length.
 const RIB: &str = "00000000 000d 0002 00000024";
 
 /// The peer 192.0.2.1 of AS 64500 in a peer table: its type, BGP Identifier, address and AS number.
@@ -483,7 +483,7 @@ pub const ALL_WITHDRAWN: &[&str] = &[
     "0000",
 ];
 
-/// A route of 16 bits by 192.0.2.1: what stands before the two octets of its prefix, and what stands behind them.
+/// A route of 16 bits by 192.0.2.1: what stands before the two octets of its prefix, and what stands after them.
 pub const OF_16_BITS: (&[&str], &[&str]) = (
     &["00000000 000d 0002 00000025", "00000000 10"],
     &["0001", FIRST_ENTRY, ORIGIN, PATH, HOP_A],
@@ -576,7 +576,7 @@ pub const TEN_WRONG_SEGMENT: &[&str] = &[
 /// 10.0.0.0/8 with an Entry Count of two, of which one is there.
 pub const TEN_OF_TWO: &[&str] = &[RIB, "00000000 08 0a 0002", FIRST_ENTRY, ORIGIN, PATH, HOP_A];
 
-/// 10.0.0.0/8 where ORIGIN's flags give it a length of two octets, which is 256.
+/// 10.0.0.0/8 if ORIGIN's flags give it a length of two octets, which is 256.
 pub const TEN_LONG_ORIGIN: &[&str] = &[
     RIB,
     "00000000 08 0a 0001",
@@ -586,7 +586,7 @@ pub const TEN_LONG_ORIGIN: &[&str] = &[
     HOP_A,
 ];
 
-/// 10.0.0.0/8 where AS_PATH's segment has two AS numbers.
+/// 10.0.0.0/8 if AS_PATH's segment has two AS numbers.
 pub const TEN_SHORT_SEGMENT: &[&str] = &[
     RIB,
     "00000000 08 0a 0001",

@@ -206,7 +206,7 @@ fn checkpoints(rt: HostRuntime) -> Result<(), Fail> {
     compare_saved(&rt, octets_of(alloc, &[PEERS, TEN])?, ONE)
 }
 
-/// What a run prints, with these updates behind this dump.
+/// What a run prints, with these updates after this dump.
 fn run_behind(alloc: Global, dump: &[u8], updates: &[u8]) -> Result<Vec<u8>, Fail> {
     let mut names = Vec::new(alloc);
     add_input(alloc, &mut names, "dump", dump)?;
@@ -219,7 +219,7 @@ fn run_behind(alloc: Global, dump: &[u8], updates: &[u8]) -> Result<Vec<u8>, Fai
     Ok(Vec::from_slice(alloc, came.out.written())?)
 }
 
-/// What is read behind a checkpoint comes to what it comes to behind its inputs.
+/// What is read after a checkpoint comes to what it comes to after its inputs.
 #[test]
 fn checkpoint_for_inputs(rt: HostRuntime) -> Result<(), Fail> {
     let alloc = rt.alloc();

@@ -1,4 +1,4 @@
-//! Runs in steps: look-ups that pause beside the stores of updates.
+//! Runs in steps: lookups that pause beside the stores of updates.
 
 use crate::harness::{Expected, FIRST, Given, Record, YES, compare, inputs_of, run_on};
 use crate::records::{PEERS, SIX, SIX_TO_SECOND, SIX_TO_THIRD, TEN, TEN_TO_A, TEN_TO_B};
@@ -33,7 +33,7 @@ const STEPS: Given<'static> = Given {
     ..FIRST
 };
 
-/// A look-up that pauses keeps its version, and the update after it waits for it.
+/// A lookup that pauses keeps its version, and the update after it waits for it.
 const PAUSED: &[u8] =
     b"open 10.1.2.3\ngo 0\nprepare\nstore\nend\nprepare\nopen 10.1.2.3\ngo 1\ngo 1\ngo 1\ngo 0\ngo 0\nprepare\ncancel\n";
 
@@ -81,7 +81,7 @@ const EVERY_STATE_ROWS: &[&str] = &[
 /// The update of the sixth step.
 const SIX_STEPS: &[u8] = b"open 10.1.2.3\ngo 0\nprepare\nstore\nend\nprepare\n";
 
-/// Where the copy fits beside the old blocks.
+/// If the copy fits beside the old blocks.
 const SIX_ROWS: &[&str] = &[
     "step,1,open,0",
     "step,2,on,0",

@@ -825,7 +825,7 @@ fn rows_of_paths_and_treated_messages(rt: HostRuntime) -> Result<(), Fail> {
     Ok(())
 }
 
-/// Runs and compares the rows of look-ups' visits and of nodes and leaves.
+/// Runs and compares the rows of lookups' visits and of nodes and leaves.
 fn compare_visits<R: Abort + Alloc<A = Global>>(
     rt: &R,
     given: &Given,

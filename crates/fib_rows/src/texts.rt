@@ -474,7 +474,7 @@ pub const COUNTS_OF_ONE_ENTRY: &[&str] = &[
     "report,treated,0",
 ];
 
-/// A snapshot after that makes the kept table least: its changes come behind those of the repair.
+/// A snapshot after that makes the kept table least: its changes come after those of the repair.
 pub const ROWS_OF_SNAPSHOT: &[&[&str]] = &[
     HALVES_ROUTES,
     &[
@@ -528,7 +528,7 @@ pub const ROWS_IN_STEADY_ORDER: &[&[&str]] = &[&[
     "report,treated,0",
 ]];
 
-/// With the fewest changes asked for, 0.0.0.0/0 gets another hop: one change, where a repair makes five.
+/// With the fewest changes asked for, 0.0.0.0/0 gets another hop: one change, while a repair makes five.
 pub const ROWS_OF_FEWEST: &[&[&str]] = &[&[
     "route,0.0.0.0/0,192.0.2.3",
     "route,64.0.0.0/2,192.0.2.2",

@@ -18,11 +18,11 @@ use Rattle.fib_due.specs.declared.outcome.Which.TheVariants.{Asks}
 use Rattle.fib_due.specs.Asks.{addresses_from, asks_in, ended_asks_in, ended_lines, has_feed}
 use Rattle.fib_due.specs.Stops.{Stop, FailsDue, IsDueIfTold}
 
--- the addresses of lines behind n others, after those of the others
+-- the addresses of lines after n others, after those of the others
 abbrev pub asks_behind : List Address → ℕ → List (List ℕ) → Result (List Address) ℕ
 asks_behind asks n lines = addresses_from (n + 1) lines >>= λ more. Ok (asks ++ more)
 
--- what a reading of lines behind n others made of the addresses and of the lines' number
+-- what a reading of lines after n others made of the addresses and of the lines' number
 abbrev pub ReadsLines : {T : Type 0} → List Address → ℕ → List (List ℕ) → Result T AskError → List Address → ℕ → Type 0
 ReadsLines old n lines (Ok x) new m = (asks_behind old n lines ≡ Ok new) × (m ≡ n + length lines)
 ReadsLines old n lines (Err (BadLine line)) new m = asks_behind old n lines ≡ Err line
@@ -63,19 +63,19 @@ ask_of_input pieces.Fault = Fault
 ask_of_input pieces.TooLarge = TooLarge
 ask_of_input pieces.NoMemory = NoMemory
 
--- the outcome where asks aren't read; a line that should be an address is wrong for reason 1
+-- the outcome if asks aren't read; a line that should be an address is wrong for reason 1
 abbrev pub ask_refusal : AskError → Outcome
 ask_refusal (BadLine line) = outcome.BadLine Asks line 1
 ask_refusal NoMemory = outcome.NoMemory
 ask_refusal Fault = outcome.ReadFault
 ask_refusal TooLarge = outcome.TooLarge Asks
 
--- what was read is what the definition gives, but for a fault of reading or want of memory
+-- what was read is what the definition gives, but for a fault of reading or running out of memory
 abbrev pub BringsAsks : {X : Type 0} → Result (Vec Addr X) AskError → Result (List Address) Stop → Type 0
 BringsAsks (Ok asks) due = IsDueIfTold due (Ok (map addr_as asks.items))
 BringsAsks (Err error) due = FailsDue (ask_refusal error) due
 
--- a fault comes only where the count of the name rose, and every other answer leaves all counts
+-- a fault comes only if the count of the name rose, and every other answer leaves all counts
 abbrev pub AsksFrom : {T : Type 0} → (List ℕ → ℕ) → (List ℕ → ℕ) → List ℕ → Result T AskError → Type 0
 AsksFrom before now name (Err Fault) = Rose (before name) (now name)
 AsksFrom before now name result = now ≡ before

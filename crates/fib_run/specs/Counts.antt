@@ -4,16 +4,16 @@ use Rattle.route_model.specs.Events.{Event}
 use Rattle.route_model.specs.Choice.{Candidates, after_elems, elems_after}
 use Rattle.fib_run.specs.declared.feed.Counts.{Counts}
 
--- behind these candidates, and after so many elementary events, those of these events are counted in 64 bits
+-- after these candidates, and after n elementary events, those of these events are counted in 64 bits
 abbrev pub CountsFit : Candidates → List Event → ℕ → Type 0
 CountsFit held events count = count + length (elems_after held events) < 2 ^ 64
 
--- these events were taken behind these candidates: their elementary events were counted, and the candidates are those after them
+-- these events were taken after these candidates: their elementary events were counted, and the candidates are those after them
 pub record CountsOn (held : Candidates) (events : List Event) (before after : ℕ) (now : Candidates) : Type 0 where
   pub count : after ≡ before + length (elems_after held events)
   pub candidates : now ≡ after_elems held (elems_after held events)
 
--- The counts of an input of at most so many octets, taken behind these candidates: no more records, no more skipped ones and no more treated messages than octets, and no more elementary events and candidates after them than the candidates before and two for each octet.
+-- The counts of an input of at most `octets` octets, taken after these candidates: no more records, no more skipped ones and no more treated messages than octets, and no more elementary events and candidates after them than the candidates before and two for each octet.
 pub record AreBounded (octets : ℕ) (held : Candidates) (counts : Counts) (now : Candidates) : Type 0 where
   pub records : counts.records ≤ octets
   pub skipped : counts.skipped ≤ octets

@@ -11,7 +11,7 @@ use Rattle.fib_due.specs.Stops.{Stop, IsDueIfTold, FailsDue}
 use Rattle.fib_due.specs.Due.{Feed}
 use Rattle.fib_due.specs.Stepped.{arena_of}
 
--- the engine has what the dump brings, at the end of the load, and tries of these sizes; but for faults and want of memory
+-- the engine has what the dump brings, at the end of the load, and tries of these sizes; but for faults and running out of memory
 abbrev pub GivesLoad : Sizes → Result EngineState Outcome → Result Feed Stop → Type 0
 GivesLoad z (Ok engine) due = (load : Feed) × EngineStands load.elems [] engine × (engine.sizes ≡ z) × IsDueIfTold due (Ok load)
 GivesLoad z (Err o) due = FailsDue o due

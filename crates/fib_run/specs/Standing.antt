@@ -41,7 +41,7 @@ abbrev pub EngineHas : MrtInput → List Elem → List Elem → EngineState → 
 EngineHas Dump before elems e = IsLoading (before ++ elems) e
 EngineHas Updates before elems e = EngineStands before elems e
 
--- the engine takes the elementary events of an input, after so many of them: those of a dump before the load ended, and those of updates since, which it counts
+-- the engine takes the elementary events of an input, after n of them: those of a dump before the load ended, and those of updates since, which it counts
 abbrev pub IsAtEvent : MrtInput → ℕ → EngineState → Type 0
 IsAtEvent Dump count e = (e.loaded ≡ false) × (e.events ≡ 0)
 IsAtEvent Updates count e = (e.loaded ≡ true) × (e.events ≡ count)
@@ -51,7 +51,7 @@ abbrev pub changes_so_far : MrtInput → Limits → List Address → List Elem �
 changes_so_far Dump limits hops before elems = []
 changes_so_far Updates limits hops before elems = run_changes limits.fewest limits.steady limits.every hops before elems
 
--- how many changes each of the events so far needed, where that is told
+-- how many changes each of the events so far needed, if that is asked for
 abbrev pub moves_so_far : MrtInput → Limits → List Address → List Elem → List Elem → List (ℕ × ℕ)
 moves_so_far Dump limits hops before elems = []
 moves_so_far Updates limits hops before elems = run_moves limits.fewest limits.every hops before elems
@@ -87,7 +87,7 @@ StateTakes which event elems old (Err NoMemory) new = Unit {0}
 abbrev pub next_elems : List Elem → List Elem → List Event → List Elem
 next_elems before done events = elems_after (after_elems [] (before ++ done)) events
 
--- the same of events, after so many elementary events of the input
+-- the same of events, after n elementary events of the input
 abbrev pub StateTakesAll : MrtInput → ℕ → List Event → State → Result ℕ FeedError → State → Type 0
 StateTakesAll which count events old (Ok n) new = (limits : Limits) (before done : List Elem) → count ≡ length done → StateStands which limits before done old → (n ≡ length (done ++ next_elems before done events)) × StateStands which limits before (done ++ next_elems before done events) new
 StateTakesAll which count events old (Err (HopsFull n)) new = (limits : Limits) (before done : List Elem) → count ≡ length done → StateStands which limits before done old → IsStopped which limits before (done ++ next_elems before done events) n ManyHops
@@ -121,7 +121,7 @@ abbrev pub feed_of_read : EventsError → FeedError
 feed_of_read (read.Malformed malformed) = Malformed malformed
 feed_of_read read.NoMemory = NoMemory
 
--- the outcome where an input brings nothing
+-- the outcome if an input brings nothing
 abbrev pub feed_outcome : MrtInput → FeedError → Outcome
 feed_outcome which (HopsFull n) = outcome.HopsFull (event_in which n)
 feed_outcome which (TrieFull n full) = outcome.TrieFull (event_in which n) full.need full.have full.arena
@@ -136,12 +136,12 @@ feed_of_input pieces.Fault = Fault
 feed_of_input pieces.TooLarge = TooLarge
 feed_of_input pieces.NoMemory = NoMemory
 
--- what was brought is what the definition gives, but for a fault of reading or want of memory
+-- what was brought is what the definition gives, but for a fault of reading or running out of memory
 abbrev pub StateBrings : MrtInput → Limits → List Elem → Result Counts FeedError → State → Result Feed Stop → Type 0
 StateBrings which limits before (Ok counts) new due = (feed : Feed) × StateHas which limits before feed counts new × IsDueIfTold due (Ok feed)
 StateBrings which limits before (Err error) new due = FailsDue (feed_outcome which error) due
 
--- a fault comes only where the count of the name rose, and every other answer leaves all counts
+-- a fault comes only if the count of the name rose, and every other answer leaves all counts
 abbrev pub FeedsFrom : {T : Type 0} → (List ℕ → ℕ) → (List ℕ → ℕ) → List ℕ → Result T FeedError → Type 0
 FeedsFrom before now name (Err Fault) = Rose (before name) (now name)
 FeedsFrom before now name result = now ≡ before
@@ -165,7 +165,7 @@ FeedsBoth content vrps named (Err o) new = FailsDue o (feeds_at content vrps nam
 abbrev pub holds : SureInputs → List ℕ → List ℕ
 holds inputs name = unwrap_or (held_under inputs.names.items name) []
 
--- under their names the inputs hold what is made of so many routes from a seed
+-- under their names the inputs hold what is made of n routes from a seed
 abbrev pub HoldsMade : ℕ → ℕ → SureInputs → Type 0
 HoldsMade routes seed inputs = (holds inputs (codes "dump") ≡ dump_octets seed routes) × (holds inputs (codes "updates") ≡ updates_octets seed routes)
 

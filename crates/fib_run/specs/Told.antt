@@ -23,17 +23,17 @@ changes_as changes = map (λ c. (c.0, change_as c.1)) changes
 abbrev pub told_changes : State → List (ℕ × Change)
 told_changes state = at_event 0 (additions (map entry_as state.added.items)) ++ changes_as state.changes.items
 
--- the row of an event that needed so many changes, if it changed a chosen hop and that is told
+-- the row of an event that needed n changes, if it changed a chosen hop and that is asked for
 abbrev pub moves_told : Bool → ℕ → Option ℕ → List (ℕ × ℕ)
 moves_told fewest event None = []
 moves_told false event (Some n) = []
 moves_told true event (Some n) = (event, n) ∷ []
 
--- how many changes each event of a state needed, where that is told
+-- how many changes each event of a state needed, if that is asked for
 abbrev pub told_moves : State → List (ℕ × ℕ)
 told_moves state = map moves_as state.moves.items
 
--- how often a snapshot comes, whether each event makes the fewest changes and how large tries are, and whether changes are told in steady order
+-- how often a snapshot comes, whether each event makes the fewest changes and how large tries are, and whether changes come in steady order
 abbrev pub limits_as : code_limits.Limits → Bool → Limits
 limits_as limits steady = record { every = limits.every; fewest = limits.fewest; steady = steady; sizes = sizes_as limits.sizes }
 

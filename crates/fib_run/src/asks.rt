@@ -63,7 +63,7 @@ impl<T: Drop> From<AllocFailed<T>> for AskError {
     }
 }
 
-/// Reads the addresses of a text's lines, behind those of so many lines before it, and counts the lines on.
+/// Reads the addresses of a text's lines, after those of `lines` lines before it, and counts the lines on.
 fn read_lines(text: &[u8], asks: &mut Vec<Addr>, lines: &mut u64) -> Result<(), AskError>
     requires { lines.old + length text.now < 2 ^ 64 }
     ensures { ReadsLines (map addr_as asks.old.items) lines.old (line_texts text.now)
@@ -105,7 +105,7 @@ impl AskReader {
         }
     }
 
-    /// Takes the next octets, and reads each line that ends among them. It costs their number and, where a line ends, that
+    /// Takes the next octets, and reads each line that ends among them. It costs their number and, if a line ends, that
     /// of the octets held. After an `Err` the reader is of no use.
     fn feed(&mut self, piece: &[u8]) -> Result<(), AskError>
         requires { self.old.lines + length self.old.held.items + length piece.now < 2 ^ 64 }
@@ -124,7 +124,7 @@ impl AskReader {
         Ok(())
     }
 
-    /// Ends the input, and gives the addresses: octets behind the last line feed are a line.
+    /// Ends the input, and returns the addresses: octets after the last line feed are a line.
     fn finish(self) -> Result<Vec<Addr>, AskError>
         requires { self.lines + length self.held.items < 2 ^ 64 }
         ensures { (fed : List ℕ) → AsksStand fed self
@@ -166,7 +166,7 @@ fn read_through<I: Inputs>(
     }
 }
 
-/// Reads the asks of an input in pieces: each line is judged before the next read, where it has its line feed, and the last
+/// Reads the asks of an input in pieces: each line is judged before the next read, if it has its line feed, and the last
 /// at the input's end. It costs the octets read; in memory are the asks, one line and one piece.
 pub fn read_asks<I: Inputs>(
     alloc: Global,

@@ -1,5 +1,5 @@
-//! The order in which the changes of an event are told: that of prefixes, or steady order, in which no packet goes astray while a
-//! router makes them one by one.
+//! The order in which the router gets the changes of an event: that of prefixes, or steady order, in which no packet goes astray
+//! while it makes them one by one.
 
 ghost use Rattle.std.specs.Prelude.{◌≡◌, ◌≤◌, ◌++◌, length, map};
 ghost use Rattle.std.specs.List.Sorted.{IsStrictlySortedBy};
@@ -15,8 +15,8 @@ ghost use Rattle.fib_delta.specs.Views.{change_as};
 use fib_delta::{Change, put_entries_in_steady_order, put_event_in_steady_order};
 use fib_prefix::Entry;
 
-/// Puts an event's changes in the order in which they are told: the first so many, which are those of its first step, and then the
-/// others, which are those of the snapshot that follows it, each in itself. Both stand in the order of prefixes.
+/// Puts an event's changes in the order in which they are written: the first `first` ones, which are those of its first step, and
+/// then the others, which are those of the snapshot that follows it, each in itself. Both stand in the order of prefixes.
 pub fn order_event(changes: &mut [Change], first: usize, steady: bool)
     requires { first ≤ length changes.old }
     ensures same { length changes.new ≡ length changes.old }
@@ -30,7 +30,7 @@ pub fn order_event(changes: &mut [Change], first: usize, steady: bool)
     }
 }
 
-/// Puts the entries that a load adds in the order in which they are told. They stand in the order of prefixes.
+/// Puts the entries that a load adds in the order in which they are written. They stand in the order of prefixes.
 pub fn order_load(entries: &mut [Entry], steady: bool)
     ensures same { length entries.new ≡ length entries.old }
     ensures told { IsStrictlySortedBy prefix_cmp (keys_of (map entry_as entries.old)) →

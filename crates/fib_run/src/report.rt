@@ -1,5 +1,5 @@
-//! What is told of a run: its routes, the announcements that are Invalid, the changes of the kept table, how many each event needed, the answers, the table,
-//! the least table, its certificate and the counts.
+//! What is written of a run: its routes, the announcements that are Invalid, the changes of the kept table, how many each event
+//! needed, the answers, the table, the least table, its certificate and the counts.
 //!
 //! The printed table is the kept one, which is the least table's old table too. The text is made section by section, from what
 //! the engine leaves once its candidates are let go: routes, entries and the rows of the certificate are written as they are
@@ -62,7 +62,7 @@ fn look_up_all<L: Ledger>(
     Ok(answers)
 }
 
-/// Each address with its answer. Tries are built where an address is asked for.
+/// Each address with its answer. Tries are built if an address is asked for.
 fn answers(alloc: Global, final_fib: &FinalFib, asks: &[Addr]) -> Result<Vec<Answer>, AllocError>
     ensures { IfOk result (λ answers. map answer_as answers.items
         ≡ answers_to final_fib.now.sizes.direct final_fib.now.routes (map addr_as asks.now)) }
@@ -101,7 +101,7 @@ pub struct InputCounts {
     pub updates: Counts,
 }
 
-/// Writes the routes, and gives how many there are.
+/// Writes the routes, and returns how many there are.
 fn write_routes<'a>(
     final_fib: &FinalFib,
     text: RunText<'a>,
@@ -141,7 +141,7 @@ fn write_changes(
     Ok(())
 }
 
-/// Writes how many changes each event needed, where that is told. The list is let go then.
+/// Writes how many changes each event needed, if that is asked for. The list is let go then.
 fn write_moves(moves: Vec<Moves>, text: &mut RunText<'_>) -> Result<(), AllocError>
     requires { IsReady text.old }
     ensures { OnOk result (WritesRows text.old text.new (map of_moves (map moves_as moves.items))) }
@@ -184,7 +184,7 @@ fn write_answers(
     text.answers(&answers(alloc, final_fib, asks)?)
 }
 
-/// Writes the kept table, and gives how many entries it has.
+/// Writes the kept table, and returns how many entries it has.
 fn write_table<'a>(
     final_fib: &FinalFib,
     text: RunText<'a>,
@@ -210,7 +210,7 @@ fn write_least<'a>(final_fib: &FinalFib, text: RunText<'a>) -> Result<RunText<'a
     Ok(rows.end().0)
 }
 
-/// Writes the kept table, the least one and its certificate, and gives how many entries the kept one has.
+/// Writes the kept table, the least one and its certificate, and returns how many entries the kept one has.
 fn write_tables<'a>(
     final_fib: FinalFib,
     text: RunText<'a>,

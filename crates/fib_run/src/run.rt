@@ -35,7 +35,7 @@ use std::alloc::{AllocError, Global};
 /// What is wrong with a line where an address is due.
 const NO_ADDRESS: u8 = 1;
 
-/// The outcome where asks aren't read.
+/// The outcome if asks aren't read.
 fn outcome_of_asks(error: AskError) -> Outcome
     ensures { result ≡ ask_refusal error }
 {
@@ -51,7 +51,7 @@ fn outcome_of_asks(error: AskError) -> Outcome
     }
 }
 
-/// The addresses that are asked for, none where no asks are named.
+/// The addresses that are asked for, none if no asks are named.
 #[tactic(auto, using(crate::proofs::FeedPasses::asks_stop, fib_due::proofs::Passes::input_read, fib_due::proofs::Passes::nothing_read), unfolding(fib_due::specs::Due::asks_at))]
 fn asks_of<I: Inputs>(
     alloc: Global,
@@ -97,7 +97,7 @@ fn vrps_in<I: Inputs>(alloc: Global, inputs: &mut I, name: &str) -> Result<Vrps,
     }
 }
 
-/// The list of VRPs that announcements are judged by, empty where none is named.
+/// The list of VRPs that announcements are judged by, empty if none is named.
 #[tactic(auto, using(fib_due::proofs::Passes::nothing_read), unfolding(fib_due::specs::Due::vrps_at))]
 fn vrps_of<I: Inputs>(
     alloc: Global,
@@ -131,7 +131,7 @@ fn event_in(which: MrtInput, event: u64) -> u64
     }
 }
 
-/// The outcome where an input brings nothing.
+/// The outcome if an input brings nothing.
 pub(crate) fn outcome_of_refusal(which: MrtInput, error: FeedError) -> Outcome
     ensures { result ≡ feed_outcome which error }
 {
@@ -279,7 +279,7 @@ fn feed_both<I: Inputs>(
     Ok(InputCounts { load, updates })
 }
 
-/// Takes the dump and the updates, and gives the text.
+/// Takes the dump and the updates, and returns the text.
 #[tactic(auto, unfolding(fib_due::specs::Due::told_at))]
 fn text_of<I: Inputs>(
     alloc: Global,
@@ -337,7 +337,7 @@ fn made_inputs(alloc: Global, made: &MakeWords) -> Result<SureInputs, AllocError
     Ok(SureInputs::new(names))
 }
 
-/// Takes both made inputs as a run takes its inputs, and gives the rows of the counts.
+/// Takes both made inputs as a run takes its inputs, and returns the rows of the counts.
 #[tactic(auto, unfolding(fib_due::specs::Due::made_at))]
 fn take_made(
     alloc: Global,
@@ -361,7 +361,7 @@ fn take_made(
     }
 }
 
-/// Makes routes and updates, takes them as a run takes its inputs, and gives the rows of the counts.
+/// Makes routes and updates, takes them as a run takes its inputs, and returns the rows of the counts.
 pub fn made_for(alloc: Global, made: &MakeWords) -> Result<Vec<u8>, Outcome>
     requires { AreWithinLimits (CommandWords.Make made.now) }
     ensures due { GivesDue (λ v. v.items) result
@@ -376,7 +376,7 @@ pub fn made_for(alloc: Global, made: &MakeWords) -> Result<Vec<u8>, Outcome>
     take_made(alloc, made, &mut inputs, &mut state)
 }
 
-/// Takes the asks, the list of VRPs, the dump and the updates, and gives the text.
+/// Takes the asks, the list of VRPs, the dump and the updates, and returns the text.
 #[tactic(auto, unfolding(fib_due::specs::Due::run_at))]
 pub fn run_for<I: Inputs>(
     alloc: Global,

@@ -113,7 +113,7 @@ pub struct State {
     pub moves: Vec<Moves>,
     /// Whether each event makes the fewest changes.
     pub fewest: bool,
-    /// Whether the changes of the load and of updates are told in steady order.
+    /// Whether the changes of the load and of updates come in steady order.
     pub steady: bool,
 }
 
@@ -133,7 +133,7 @@ fn push_changes(
     Ok(())
 }
 
-/// Adds how many changes the event of this number needed, if it changed a chosen hop and that is told.
+/// Adds how many changes the event of this number needed, if it changed a chosen hop and that is asked for.
 fn push_moves(
     all: &mut Vec<Moves>,
     event: u64,
@@ -151,7 +151,7 @@ fn push_moves(
 }
 
 impl State {
-    /// Nothing was brought; snapshots and tries are within these limits, and changes are told in steady order or in that of
+    /// Nothing was brought; snapshots and tries are within these limits, and changes come in steady order or in that of
     /// prefixes.
     pub fn new(alloc: Global, limits: Limits, steady: bool) -> State
         ensures stands { StateStands MrtInput.Dump (limits_as limits steady) [] [] result }
@@ -244,7 +244,7 @@ fn elem_of(event: &Event) -> Option<Elem>
     }
 }
 
-/// Takes the elementary events of an event after so many others, and gives how many there are then.
+/// Takes the elementary events of an event after `before` others, and returns how many there are then.
 fn take_elems(
     state: &mut State,
     which: MrtInput,
@@ -294,7 +294,8 @@ fn load_step(
     }
 }
 
-/// Takes an event of a dump after so many elementary events, and gives how many there are then. A route is taken as it lies there.
+/// Takes an event of a dump after `before` elementary events, and returns how many there are then. A route is taken as it lies
+/// there.
 fn take_dumped(state: &mut State, before: u64, event: &Event) -> Result<u64, FeedError>
     requires ready { IsAtEvent MrtInput.Dump before state.old.engine }
     requires few { CountsFit state.old.engine.candidates (event_as event.now ∷ []) before }
@@ -315,7 +316,7 @@ fn take_dumped(state: &mut State, before: u64, event: &Event) -> Result<u64, Fee
     }
 }
 
-/// Takes an event after so many elementary events, and gives how many there are then.
+/// Takes an event after `before` elementary events, and returns how many there are then.
 fn take_event(
     state: &mut State,
     which: MrtInput,
@@ -337,7 +338,7 @@ fn take_event(
     }
 }
 
-/// Takes an event after so many elementary events, and gives how many there are then. Only a lost session takes a list.
+/// Takes an event after `before` elementary events, and returns how many there are then. Only a lost session takes a list.
 fn take_one(
     state: &mut State,
     which: MrtInput,
@@ -362,7 +363,7 @@ fn take_one(
     }
 }
 
-/// Takes events after so many elementary events, and gives how many there are then.
+/// Takes events after `before` elementary events, and returns how many there are then.
 pub fn take_events(
     state: &mut State,
     which: MrtInput,

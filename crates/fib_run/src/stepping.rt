@@ -144,7 +144,7 @@ fn arena_of(family: Family, full: &TrieFull) -> u8
     }
 }
 
-/// The outcome where a run ends before its script does.
+/// The outcome if a run ends before its script does.
 fn outcome_of_step(error: StepError) -> Outcome
     ensures { result ≡ of_step error }
 {
@@ -160,7 +160,7 @@ fn outcome_of_step(error: StepError) -> Outcome
     }
 }
 
-/// Takes the dump and the updates, makes the steps, and gives the text of their rows.
+/// Takes the dump and the updates, makes the steps, and returns the text of their rows.
 #[tactic(auto, unfolding(fib_due::specs::Due::world_at))]
 fn rows_of<I: Inputs>(
     alloc: Global,
@@ -189,7 +189,7 @@ fn rows_of<I: Inputs>(
     }
 }
 
-/// Takes the script, the dump and the updates, makes the steps, and gives the text of their rows.
+/// Takes the script, the dump and the updates, makes the steps, and returns the text of their rows.
 #[tactic(auto, unfolding(fib_due::specs::Due::stepping_at))]
 pub fn steps_for<I: Inputs>(
     alloc: Global,

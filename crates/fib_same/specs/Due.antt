@@ -19,14 +19,14 @@ pub data TextRefusal : Type 0 where
   BadLine : ℕ → ℕ → ℕ → TextRefusal
   Twice : ℕ → Prefix → TextRefusal
 
--- what isn't told, since an input's content isn't; or a refusal
+-- what isn't known, since an input's content isn't; or a refusal
 pub data TextStop : Type 0 where
   Untold : TextStop
   Refused : TextRefusal → TextStop
 
 -- ---- one text
 
--- the content of an input, where it is told
+-- the content of an input, if it is known
 abbrev pub text_content : Option (List ℕ) → Result (List ℕ) TextStop
 text_content None = Err Untold
 text_content (Some octets) = Ok octets
@@ -98,7 +98,7 @@ pub record TextDifference : Type 0 where
 abbrev pub hop_from : List Address → Entries → Address → Option Address
 hop_from hops table a = hop_at hops (match_in table a)
 
--- a difference, told of the tables
+-- a difference, in terms of the tables
 abbrev pub told_difference : Compared → Difference → TextDifference
 told_difference t x = record {
   text = x.text + 2;
@@ -111,7 +111,7 @@ told_difference t x = record {
 abbrev pub answer_of : Compared → Option TextDifference
 answer_of t = option_map (told_difference t) (least_difference t.first t.others)
 
--- The least difference is what comparing these tables comes to, and the answer tells it.
+-- The least difference is what comparing these tables comes to, and the answer says it.
 abbrev pub TellsDifference : Compared → Option TextDifference → Type 0
 TellsDifference t answer = ComparesTo t.first t.others (least_difference t.first t.others) × (answer ≡ answer_of t)
 

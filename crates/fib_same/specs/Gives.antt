@@ -9,13 +9,13 @@ use Rattle.fib_same.specs.Due.{TextStop, Untold, Refused, TooLarge, BadLine, Twi
 use Rattle.fib_same.specs.declared.error.SameError.{SameError}
 use Rattle.fib_same.specs.declared.error.SameError.TheVariants as error
 
--- what is due is this, if all that it rests on is told
+-- what is due is this, if all that it rests on is known
 abbrev pub MatchesIfTold : {Y : Type 0} → Result Y TextStop → Result Y TextStop → Type 0
 MatchesIfTold (Err Untold) answer = Unit {0}
 MatchesIfTold (Err (Refused r)) answer = Err (Refused r) ≡ answer
 MatchesIfTold (Ok y) answer = Ok y ≡ answer
 
--- an error is the refusal that is due; a fault of reading or want of memory may come in its place
+-- an error is the refusal that is due; a fault of reading or running out of memory may come in its place
 abbrev pub RefusesDue : {Y : Type 0} → SameError → Result Y TextStop → Type 0
 RefusesDue error.Fault due = Unit {0}
 RefusesDue error.NoMemory due = Unit {0}
@@ -23,7 +23,7 @@ RefusesDue (error.TooLarge text) due = MatchesIfTold due (Err (Refused (TooLarge
 RefusesDue (error.BadLine text line why) due = MatchesIfTold due (Err (Refused (BadLine text line why)))
 RefusesDue (error.Twice text prefix) due = MatchesIfTold due (Err (Refused (Twice text (prefix_as prefix))))
 
--- what a call returned, seen by view, is what is due, but for faults and want of memory
+-- what a call returned, seen by view, is what is due, but for faults and running out of memory
 abbrev pub ReturnsDue : {X Y : Type 0} → (X → Y) → Result X SameError → Result Y TextStop → Type 0
 ReturnsDue view (Ok x) due = MatchesIfTold due (Ok (view x))
 ReturnsDue view (Err e) due = RefusesDue e due
@@ -35,7 +35,7 @@ abbrev pub OneRose : List (List ℕ) → (List ℕ → ℕ) → (List ℕ → �
 OneRose [] before now = ⊥
 OneRose (name ∷ names) before now = Rose (before name) (now name) ⊎ OneRose names before now
 
--- a fault of reading comes only where the count of one of these names rose, and all else leaves all counts
+-- a fault of reading comes only if the count of one of these names rose, and all else leaves all counts
 abbrev pub ReadsNamedTexts : {X : Type 0} → List (List ℕ) → (List ℕ → ℕ) → (List ℕ → ℕ) → Result X SameError → Type 0
 ReadsNamedTexts names before now (Ok x) = now ≡ before
 ReadsNamedTexts names before now (Err error.Fault) = OneRose names before now

@@ -45,7 +45,7 @@ numbered_texts n [] = []
 numbered_texts n (name ∷ names) = (n, name) ∷ numbered_texts (n + 1) names
 
 -- The reads up to a refusal are those of the texts before the one that is refused, and of this one: a text is judged once it was read to
--- its end, a fault of reading is that of the last read, and a text is too large if a read behind the last octet that is read gave some.
+-- its end, a fault of reading is that of the last read, and a text is too large if a read after the last octet that is read gave some.
 abbrev pub StopsReadingTexts : List (ℕ × List ℕ) → SameError → List Read → Type 0
 StopsReadingTexts inputs error.Fault reads = (text : ℕ) × TextsReadUpTo inputs text AtFault reads
 StopsReadingTexts inputs error.NoMemory reads = TextsReadInPart inputs reads

@@ -18,7 +18,7 @@ use Rattle.fib_same.specs.declared.compare.Found.{Found}
 abbrev pub difference_as : Difference → TextDifference
 difference_as d = record { text = d.text; addr = addr_as d.addr; first = option_map addr_as d.first; other = option_map addr_as d.other }
 
--- Whatever the texts hold: the answer is what comparing some tables comes to, which are those of the texts if these are told.
+-- Whatever the texts hold: the answer is what comparing some tables comes to, which are those of the texts if these are known.
 abbrev pub EndsCompared : Result Compared TextStop → Option Difference → Type 0
 EndsCompared due answer = (t : Compared) × MatchesIfTold due (Ok t) × TellsDifference t (option_map difference_as answer)
 
@@ -40,7 +40,7 @@ AnswersOf first others f = (match_in first (addr_as f.differ.addr) ≡ f.differ.
 abbrev pub Finds : Entries → List Entries → Option Found → Type 0
 Finds first others best = (option_map text_difference_as best ≡ least_difference first others) × IfSome best (AnswersOf first others)
 
--- it is that of some tables, which are those of the texts if these are told
+-- it is that of some tables, which are those of the texts if these are known
 abbrev pub ComesFrom : (List ℕ → Option (List ℕ)) → Kind → Hops → Hops → List (List ℕ) → TableRuns → Option Found → Type 0
 ComesFrom content kind before after names runs best =
     (t : Tables) × MatchesIfTold (texts_at content kind before.list 2 names) (Ok t) × (t.hops ≡ after.list) × ((first : Entries) → TellsBoth first runs → Finds first t.tables best)

@@ -125,7 +125,7 @@ fn difference_of(found: &Found, hops: &HopTable) -> Difference
 /// # Errors
 ///
 /// A text that is too large, or has a line that is no row or whose hop is the 65,535th of all texts, or has a prefix twice in its rows of
-/// this kind: the first text that has, and in this order. A failed read, or no memory.
+/// this kind: the first text that has, and in this order. A failed read, or out of memory.
 pub fn compare_texts<I: Inputs>(
     alloc: Global,
     inputs: &mut I,

@@ -19,7 +19,7 @@ use std::alloc::Global;
 ///
 /// # Errors
 ///
-/// The text is too large. A failed read, or no memory.
+/// The text is too large. A failed read, or out of memory.
 #[tactic(auto, using(crate::proofs::Reading::text_read, crate::proofs::Reading::text_fails, crate::proofs::Reading::text_large, crate::proofs::Reading::text_begun), unfolding(crate::specs::Due::text_octets, crate::specs::Due::sized_text))]
 pub fn octets_of<I: Inputs>(
     alloc: Global,
@@ -73,13 +73,13 @@ fn entries_of(
     }
 }
 
-/// The entries that the text of this name and number says in its rows of this kind, with hops numbered behind those of the texts
+/// The entries that the text of this name and number says in its rows of this kind, with hops numbered after those of the texts
 /// before it. The text is read to its end and then judged; its octets are let go before the call returns. It costs n log n in them.
 ///
 /// # Errors
 ///
 /// The text is too large, or has a line that is no row or whose hop is the 65,535th of all texts, or has a prefix twice in its rows of
-/// this kind. A failed read, or no memory.
+/// this kind. A failed read, or out of memory.
 #[tactic(auto, unfolding(crate::specs::Due::text_at))]
 pub fn read_text<I: Inputs>(
     alloc: Global,

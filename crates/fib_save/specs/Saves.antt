@@ -36,7 +36,7 @@ SaveAnswers {A = A} content dump updates (Err (Unwritten error)) = Written {A = 
 SaveAnswers {A = A} content dump updates (Err (Dump error)) = IfSome (content dump) (IsInputRefused error)
 SaveAnswers {A = A} content dump updates (Err (Updates error)) = UpdatesRefused content dump updates error
 
--- a fault comes only where the count of the input rose, and every other answer leaves all counts
+-- a fault comes only if the count of the input rose, and every other answer leaves all counts
 abbrev pub FaultOf : (List ℕ → ℕ) → (List ℕ → ℕ) → List ℕ → WholeError → Type 0
 FaultOf before now name whole.Fault = Rose (before name) (now name)
 FaultOf before now name whole.TooLarge = now ≡ before

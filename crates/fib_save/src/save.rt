@@ -78,15 +78,15 @@ fn checkpoint(alloc: Global, candidates: &Candidates) -> Result<Vec<u8>, WriteEr
 /// The checkpoint of the candidates that the dump and then the updates, if they are named, bring: an MRT dump that is read as exactly
 /// these (`saved_model`).
 ///
-/// All is read before the candidates are handed on, which they are twice, one by one: first for what must be known before the first
-/// octet, then to be written. In memory are one record and the peer table, until all is read; the candidates, 24 octets each and 32
-/// a prefix where they came in the order of prefixes; while they are handed on a list of their prefixes, 48 octets each; and the
-/// octets that are written, some 30 a candidate. There is no list of candidates.
+/// All is read before the candidates are passed on, which they are twice, one by one: first for what must be known before the
+/// first octet, then to be written. In memory are one record and the peer table, until all is read; the candidates, 24 octets
+/// each and 32 a prefix if they came in the order of prefixes; while they are passed on a list of their prefixes, 48 octets each;
+/// and the octets that are written, some 30 a candidate. There is no list of candidates.
 ///
 /// # Errors
 ///
 /// The first input that isn't read to its end. Else more than 65,535 peers have a candidate, or a path is longer than 15,000, or
-/// there is no memory.
+/// memory runs out.
 pub fn save_inputs<I: Inputs>(
     alloc: Global,
     inputs: &mut I,

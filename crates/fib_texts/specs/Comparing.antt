@@ -25,7 +25,7 @@ use Rattle.fib_due.specs.Views.{reply_as}
 abbrev pub answer_reply : Option TextDifference → Reply
 answer_reply answer = record { text = answer_text answer; wrong = option_map Differs answer }
 
--- What is replied where texts aren't read: the verdict on a text in which a prefix stands twice, or the outcome of a refusal. Memory may run out while a row is made.
+-- What is replied if texts aren't read: the verdict on a text in which a prefix stands twice, or the outcome of a refusal. Memory may run out while a row is made.
 abbrev pub RepliesRefusal : SameError → Result code_reply.Reply Outcome → Type 0
 RepliesRefusal (same_error.Twice n p) (Ok reply) = reply_as reply ≡ reply_of (Repeats (prefix_as p))
 RepliesRefusal (same_error.Twice n p) (Err o) = o ≡ NoMemory

@@ -16,7 +16,7 @@ use Rattle.fib_due.specs.Due.{Saved, said_at, saved_of}
 use Rattle.fib_due.specs.Stepping.{refusal_by}
 use Rattle.fib_due.specs.Stops.{IsDueIfTold}
 
--- the outcome where there is no checkpoint
+-- the outcome if there is no checkpoint
 abbrev pub refusal_of_save : SaveError → Outcome
 refusal_of_save (save_error.Dump error) = refusal_by Dump error
 refusal_of_save (save_error.Updates error) = refusal_by Updates error
@@ -24,7 +24,7 @@ refusal_of_save (save_error.Unwritten (write.PeersFull peers)) = PeersFull peers
 refusal_of_save (save_error.Unwritten (write.PathTooLong p n)) = PathTooLong p n
 refusal_of_save (save_error.Unwritten write.NoMemory) = NoMemory
 
--- The reply is the checkpoint of what some events bring, which are those of the inputs where these tell what they hold. It restores them, and nothing is wrong with it.
+-- The reply is the checkpoint of what some events bring, which are those of the inputs if the contents of these are known. It restores them, and nothing is wrong with it.
 pub record HoldsCheckpoint (content : List ℕ → Option (List ℕ)) (named : NamedSave) (reply : code_reply.Reply) : Type 0 where
   pub said : List Event
   pub due : IsDueIfTold (said_at content named) (Ok said)

@@ -195,8 +195,8 @@ fn reply_to_read(alloc: Global, read: Result<ReadText, ReadError>) -> Result<Rep
     }
 }
 
-/// Reads a printed text, in pieces, and gives the reply to it: whether its certificate proves its least table least. It costs n log n
-/// in the text's length.
+/// Reads a printed text, in pieces, and returns the reply to it: whether its certificate proves its least table least. It costs n
+/// log n in the text's length.
 pub fn check_for<I: Inputs>(alloc: Global, inputs: &mut I, name: &str) -> Result<Reply, Outcome>
     ensures due { GivesDue reply_as result
         (with_reply (checked (used_at (I.content inputs.old) name.now))) }

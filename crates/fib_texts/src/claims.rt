@@ -148,8 +148,8 @@ fn reply_to(alloc: Global, verdict: Result<MovesVerdict, SameError>) -> Result<R
     }
 }
 
-/// Checks what a router was told to change, by whomever, against its table and the routes that it is to forward as, and gives the reply:
-/// `yes`, what is wrong, or which prefix stands twice in a text.
+/// Checks what a router was told to change, by whomever, against its table and the routes that it is to forward as, and returns
+/// the reply: `yes`, what is wrong, or which prefix stands twice in a text.
 pub fn check_moves_for<I: Inputs>(
     alloc: Global,
     inputs: &mut I,

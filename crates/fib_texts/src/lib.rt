@@ -1,7 +1,8 @@
 //! The commands on printed texts and checkpoints.
 //!
-//! A printed text is read, and whether its certificate proves its least table least is told. Texts are compared; a checkpoint of what
-//! a dump and updates bring is written; and it is told what a router must change, or whether what it was told to change is that.
+//! A printed text is read, and whether its certificate proves its least table least is reported. Texts are compared; a checkpoint
+//! of what a dump and updates bring is written; and what a router must change is reported, or whether what it was told to change
+//! is that.
 #![tactic(auto)]
 
 mod check;

@@ -24,7 +24,7 @@ use fib_words::MovesWords;
 use router_moves::{RouterMoves, moves_to_routes};
 use std::alloc::{AllocError, Global};
 
-/// The event that a router's changes are told as.
+/// The event as which a router gets its changes.
 const EVENT: u64 = 1;
 
 /// The rows: the changes, how many there are, and those that prove that no fewer would do.
@@ -56,8 +56,8 @@ fn reply_to(alloc: Global, moves: Result<RouterMoves, SameError>) -> Result<Repl
     }
 }
 
-/// Finds the fewest changes that make a router forward as printed routes do, and gives the reply: their rows, or which prefix stands
-/// twice in a text.
+/// Finds the fewest changes that make a router forward as printed routes do, and returns the reply: their rows, or which prefix
+/// stands twice in a text.
 pub fn moves_for<I: Inputs>(
     alloc: Global,
     inputs: &mut I,

@@ -76,7 +76,7 @@ fn reply_to_twice(alloc: Global, prefix: Prefix) -> Result<Reply, AllocError>
     })
 }
 
-/// The reply where texts aren't read: which prefix stands twice in one, or why one is refused.
+/// The reply if texts aren't read: which prefix stands twice in one, or why one is refused.
 pub(crate) fn reply_to_refused(alloc: Global, error: SameError) -> Result<Reply, Outcome>
     ensures { RepliesRefusal error result }
 {
@@ -110,7 +110,7 @@ fn reply_to(
     }
 }
 
-/// Compares printed texts, and gives the reply: `alike`, where one differs, or which prefix stands twice in one.
+/// Compares printed texts, and returns the reply: `alike`, where one differs, or which prefix stands twice in one.
 pub fn same_for<I: Inputs>(
     alloc: Global,
     inputs: &mut I,

@@ -40,7 +40,7 @@ fn outcome_of_save(error: SaveError) -> Outcome
     }
 }
 
-/// Reads the dump, and then the updates, and gives the checkpoint of the candidates that they bring.
+/// Reads the dump, and then the updates, and returns the checkpoint of the candidates that they bring.
 pub fn save_for<I: Inputs>(
     alloc: Global,
     inputs: &mut I,

@@ -95,8 +95,8 @@ fib_app = with_subcommand (with_subcommand (with_subcommand (with_subcommand (wi
 
 -- ---- what the words name
 
--- The inputs of a run; how many elementary events of the updates a snapshot follows, where 0 is never; whether each event makes the
--- fewest changes; whether changes are told in steady order; and of each family's trie the direct bits and the orders of its arenas of nodes and of leaves.
+-- The inputs of a run; how many elementary events of the updates a snapshot follows, and 0 is never; whether each event makes the
+-- fewest changes; whether changes come in steady order; and of each family's trie the direct bits and the orders of its arenas of nodes and of leaves.
 pub record Named : Type 0 where
   pub dump : Text
   pub updates : Option Text
@@ -129,7 +129,7 @@ pub record NamedSave : Type 0 where
   pub dump : Text
   pub updates : Option Text
 
--- The text with the table that a router has, and the one with the routes that it is to forward as; and whether the changes are told in steady order.
+-- The text with the table that a router has, and the one with the routes that it is to forward as; and whether the changes come in steady order.
 pub record NamedMoves : Type 0 where
   pub router : Text
   pub printed : Text
@@ -147,7 +147,7 @@ pub record NamedSizes : Type 0 where
   pub nodes : ℕ
   pub leaves : ℕ
 
--- the number below a bound that the word after an option writes, in decimal without a sign and without leading zeros; the usual one where there is no such word
+-- the number below a bound that the word after an option writes, in decimal without a sign and without leading zeros; the usual one if there is no such word
 abbrev pub number_or : ℕ → ℕ → Option Text → Option ℕ
 number_or usual bound None = Some usual
 number_or usual bound (Some word) = number_below bound word
@@ -165,7 +165,7 @@ is_empty (x ∷ xs) = false
 abbrev pub takes : List Text → Bool
 takes words = is_empty (fault_of fib_app words)
 
--- what is read from a value, where there is one
+-- what is read from a value, if there is one
 infixl 10 ◌>>=◌
 abbrev ◌>>=◌ : {A B : Type 0} → Option A → (A → Option B) → Option B
 o >>= f = option_and_then f o
@@ -181,7 +181,7 @@ sizes_with direct nodes leaves = do
 abbrev pub sizes_by : List Row → Option NamedSizes
 sizes_by rows = sizes_with (first_of (codes "direct") rows) (first_of (codes "nodes") rows) (first_of (codes "leaves") rows)
 
--- whether a flag stands: clap tells it by the word `true`, and else by another
+-- whether a flag stands: clap gives it the word `true`, and else another
 abbrev pub is_on : Option Text → Bool
 is_on None = false
 is_on (Some word) = bytes_eq word (codes "true")
@@ -238,7 +238,7 @@ save_with dump updates = do
 abbrev pub save_by : List Row → Option NamedSave
 save_by rows = save_with (first_of (codes "dump") rows) (first_of (codes "updates") rows)
 
--- A run; the check of a printed text; a run on so many routes that are made from a seed; a run in steps; a comparison of printed texts; a checkpoint; what a router must change; or the check of what it was told to change
+-- A run; the check of a printed text; a run on n routes that are made from a seed; a run in steps; a comparison of printed texts; a checkpoint; what a router must change; or the check of what it was told to change
 pub data Asked : Type 0 where
   Run : Named → Asked
   Check : Text → Asked
@@ -249,7 +249,7 @@ pub data Asked : Type 0 where
   Moves : NamedMoves → Asked
   CheckMoves : NamedCheckMoves → Asked
 
--- so many routes, from 1 to 200,000, made from a seed below 2^64
+-- n routes, from 1 to 200,000, made from a seed below 2^64
 abbrev pub made_with : Option Text → Option Text → Option Asked
 made_with routes seed = do
   r ← routes
@@ -261,7 +261,7 @@ made_with routes seed = do
 abbrev pub made_by : List Row → Option Asked
 made_by rows = made_with (first_of (codes "routes") rows) (first_of (codes "seed") rows)
 
--- What a router must change, or the check of a third text with such changes: the flag of a check and a third text stand together or not at all, and a check has no order to tell changes in.
+-- What a router must change, or the check of a third text with such changes: the flag of a check and a third text stand together or not at all, and a check has no order to write changes in.
 abbrev pub moves_asked : Text → Text → Option Text → Bool → Bool → Option Asked
 moves_asked router printed None false steady = Some (Moves (record { router = router; printed = printed; steady = steady }))
 moves_asked router printed None true steady = None
@@ -289,7 +289,7 @@ asked_in entered =
     else (if bytes_eq entered.0 (codes "save") then option_map Save (save_by entered.1)
     else (if bytes_eq entered.0 (codes "moves") then moves_by entered.1 else None))))))
 
--- what the words ask for, where the definition takes them
+-- what the words ask for, if the definition takes them
 unfoldable pub command_of : List Text → Option Asked
 command_of words = if takes words then option_and_then asked_in (subcommand_of fib_app words) else None
 

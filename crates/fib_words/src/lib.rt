@@ -34,7 +34,7 @@ pub struct RunWords<'a> {
     pub every: u32,
     /// Whether an event that changes a chosen hop makes the fewest changes, instead of a repair at its prefix.
     pub fewest: bool,
-    /// Whether the changes of an event are told in steady order: no packet goes astray while a router makes them one by one.
+    /// Whether the changes of an event come in steady order: no packet goes astray while a router makes them one by one.
     pub steady: bool,
     /// The direct bits of a trie: 18 at most.
     pub direct: u8,
@@ -97,7 +97,7 @@ pub struct MovesWords<'a> {
     pub router: &'a str,
     /// The text with the routes that it is to forward as.
     pub printed: &'a str,
-    /// Whether the changes are told in steady order: no packet goes astray while the router makes them one by one.
+    /// Whether the changes come in steady order: no packet goes astray while the router makes them one by one.
     pub steady: bool,
 }
 
@@ -378,7 +378,7 @@ fn fib_command<'a>(alloc: Global) -> Result<Command<'a>, AllocError>
     with_command(command, moves)
 }
 
-/// How many events a snapshot follows, by the word after `--every`, and 0 where there is none. `None` exactly where the word isn't
+/// How many events a snapshot follows, by the word after `--every`, and 0 if there is none. `None` exactly if the word isn't
 /// a number from 0 to 4,294,967,295 in plain decimal.
 fn every_of(word: Option<&str>) -> Option<u32>
     ensures { result ≡ number_or 0 (2 ^ 32) (option_map (λ w. w.now) word.entry) }
@@ -392,8 +392,8 @@ fn every_of(word: Option<&str>) -> Option<u32>
     }
 }
 
-/// Direct bits, or the order of an arena: the number that the word writes, or the usual one where there is none. `None` exactly
-/// where the word isn't a number from 0 to `most` in plain decimal.
+/// Direct bits, or the order of an arena: the number that the word writes, or the usual one if there is none. `None` exactly
+/// if the word isn't a number from 0 to `most` in plain decimal.
 fn size_of(word: Option<&str>, usual: u8, most: u8) -> Option<u8>
     requires { usual ≤ most }
     ensures same { result ≡ number_or usual (most + 1) (option_map (λ w. w.now) word.entry) }
@@ -423,7 +423,7 @@ fn sizes_of(matches: &ArgMatches<'_>) -> Option<SizesWords>
     })
 }
 
-/// Whether a flag stands: clap tells it by the word `true`.
+/// Whether a flag stands: clap gives it the word `true`.
 fn is_on(word: Option<&str>) -> bool
     ensures { result ≡ is_on (option_map (λ w. w.now) word.entry) }
 {
@@ -455,7 +455,7 @@ fn run_words<'a>(matches: &ArgMatches<'a>) -> Option<RunWords<'a>>
     })
 }
 
-/// How many routes the word asks for. `None` exactly where it isn't a number from 1 to 200,000 in plain decimal.
+/// How many routes the word asks for. `None` exactly if it isn't a number from 1 to 200,000 in plain decimal.
 fn routes_of(word: &str) -> Option<u32>
     ensures same { result ≡ option_and_then from_one (number_below 200001 word.now) }
     ensures within { IfSome result (λ routes. (1 ≤ routes) × (routes ≤ 200000)) }
@@ -466,7 +466,7 @@ fn routes_of(word: &str) -> Option<u32>
     }
 }
 
-/// What all is drawn from, by its word. `None` exactly where it isn't a number below 2^64 in plain decimal.
+/// What all is drawn from, by its word. `None` exactly if it isn't a number below 2^64 in plain decimal.
 fn seed_of(word: &str) -> Option<u64>
     ensures { result ≡ number_below (2 ^ 64) word.now }
 {
@@ -657,9 +657,9 @@ fn command_in<'a>(
 
 /// Reads the words of the command line, the program's name first.
 ///
-/// Unless memory runs out, `Usage` comes exactly where the words are no command: where clap's definition of the command
-/// line doesn't take them, what it takes names no command with its words, or a word that should be a number is none, or is out of
-/// its range. What comes is in its ranges.
+/// Unless memory runs out, `Usage` comes exactly if the words are no command: clap's definition of the command line doesn't take
+/// them; or what it takes names no command with its words; or a word that should be a number is none, or is out of its range.
+/// What comes is in its ranges.
 pub fn read_words<'a>(alloc: Global, words: &'a [String]) -> Result<CommandWords<'a>, WordsError>
     ensures command { IsCommand result (command_of (map string_bytes words.now)) }
     ensures within { IfOk result AreWithinLimits }

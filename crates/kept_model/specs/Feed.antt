@@ -38,7 +38,7 @@ number_in hops hop = unwrap_or (number_of hops hop) 0
 abbrev pub entries_of : List Address → Candidates → Entries
 entries_of hops held = map (λ r. (r.0, number_in hops r.1)) (routes_of held)
 
--- the route at a prefix, where it has a hop
+-- the route at a prefix, if it has a hop
 abbrev pub route_by : Prefix → Option Address → List (Prefix × Address)
 route_by p None = []
 route_by p (Some hop) = (p, hop) ∷ []
@@ -53,7 +53,7 @@ AreNumbered hops held = AllByRecursion (λ (r : Prefix × Address). IsNumbered h
 
 -- ---- its changes
 
--- the change at a prefix from one chosen hop to another; none where both are one
+-- the change at a prefix from one chosen hop to another; none if both are one
 abbrev pub change_of : List Address → Prefix → Option Address → Option Address → List Change
 change_of hops p None None = []
 change_of hops p None (Some hop) = Add p (number_in hops hop) ∷ []

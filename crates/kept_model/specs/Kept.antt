@@ -45,7 +45,7 @@ kept_at_load hops held = snapshot_of (entries_of hops held) []
 abbrev pub repaired_by : List Address → Candidates → Entries → Elem → Entries
 repaired_by hops held T elem = after_repair (entries_of hops (after_elem held elem)) (changed_at held elem) T
 
--- the kept table after the elementary event of this number: after its repair, and then after a snapshot where one is due
+-- the kept table after the elementary event of this number: after its repair, and then after a snapshot if one is due
 abbrev pub kept_by : ℕ → List Address → ℕ → Candidates → Entries → Elem → Entries
 kept_by every hops n held T elem = snapshot_if (is_due every n) (entries_of hops (after_elem held elem)) (repaired_by hops held T elem)
 

@@ -21,6 +21,6 @@ pub record AnswerMeanwhile (changes : List (ℕ × Change)) (before after : ℕ 
   -- it sends each address where the routes before that event send it, or where those after it do
   pub either : (done left : List (ℕ × Change)) (n : ℕ) (c : Change) (M : Entries) (a : Address) → changes ≡ done ++ (n, c) ∷ left → sum_of (changes_in (done ++ (n, c) ∷ [])) ≡ Some M → IsAddress a
       → (match_in M a ≡ match_in (before n) a) ⊎ (match_in M a ≡ match_in (after n) a)
-  -- and where it sends one as the latter do, it does so until the event's last change
+  -- and if it sends one as the latter do, it does so until the event's last change
   pub stays : (done more left : List (ℕ × Change)) (n : ℕ) (c d : Change) (M N : Entries) (a : Address) → changes ≡ done ++ (n, c) ∷ (more ++ (n, d) ∷ left) → sum_of (changes_in (done ++ (n, c) ∷ [])) ≡ Some M
       → sum_of (changes_in (done ++ (n, c) ∷ (more ++ (n, d) ∷ []))) ≡ Some N → IsAddress a → match_in M a ≡ match_in (after n) a → match_in N a ≡ match_in (after n) a

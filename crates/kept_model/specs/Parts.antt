@@ -4,7 +4,7 @@ use Rattle.table_model.specs.Table.{Table, half}
 use Rattle.table_model.specs.Regions.{entry_at}
 use Rattle.table_model.specs.Sets.{agg}
 
--- both are told, or neither, and then they are the same
+-- both are given, or neither, and then they are the same
 abbrev pub BothOrNeither : Option ℕ → Option ℕ → Option ℕ → Option ℕ → Type 0
 BothOrNeither old new o n = ((o ≡ old) × (n ≡ new)) ⊎ ((o ≡ None) × (n ≡ None) × (old ≡ new))
 

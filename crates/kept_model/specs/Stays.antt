@@ -23,7 +23,7 @@ pub record IsOff (q : List Bool) (marks : Table) : Type 0 where
 abbrev pub Settled : ℕ → (List Bool → ℕ) → Table → ℕ → Table → Type 0
 Settled d f L h marks = (q : List Bool) → length q ≤ d → IsOff q marks → Stays (d - length q) (λ a. f (q ++ a)) (cut q L) (above q L h)
 
--- the dirty prefixes that there were still are, and are wide where they were
+-- the dirty prefixes that there were still are, and are wide if they were
 pub record HasMarks (old new : Table) : Type 0 where
   pub there : (r : List Bool) → entry_at r new ≡ None → entry_at r old ≡ None
   pub wide : (r : List Bool) → is_wide_mark (entry_at r new) ≡ false → is_wide_mark (entry_at r old) ≡ false

@@ -1,4 +1,4 @@
--- What a router is told: the changes of a kept table event by event, in steady order where that is asked for.
+-- What a router is told: the changes of a kept table event by event, in steady order if that is asked for.
 use Rattle.std.specs.Prelude.{ℕ, ◌+◌, List, [], ◌∷◌, ◌++◌, Bool, true, false}
 use Rattle.table_model.specs.Address.{Address}
 use Rattle.table_model.specs.Entries.{Entries}
@@ -10,7 +10,7 @@ use Rattle.kept_model.specs.Steady.{in_steady_order}
 use Rattle.kept_model.specs.Feed.{at_event}
 use Rattle.kept_model.specs.Kept.{kept_at_load, kept_by, repaired_by}
 
--- changes that stand in the order of prefixes, as they are told
+-- changes that stand in the order of prefixes, as the router gets them
 abbrev pub steady_if : Bool → List Change → List Change
 steady_if false cs = cs
 steady_if true cs = in_steady_order cs
@@ -23,7 +23,7 @@ repair_changes hops held T elem = between T (repaired_by hops held T elem)
 abbrev pub snapshot_changes : ℕ → List Address → ℕ → Candidates → Entries → Elem → List Change
 snapshot_changes every hops n held T elem = between (repaired_by hops held T elem) (kept_by every hops n held T elem)
 
--- what is told of the elementary event of this number: both, each in itself
+-- what the router is told of the elementary event of this number: both, each in itself
 abbrev pub event_told : Bool → ℕ → List Address → ℕ → Candidates → Entries → Elem → List Change
 event_told steady every hops n held T elem = steady_if steady (repair_changes hops held T elem) ++ steady_if steady (snapshot_changes every hops n held T elem)
 

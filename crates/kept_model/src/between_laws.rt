@@ -18,14 +18,14 @@ pub fn sum_law()
 {}
 
 /// They stand in the order of prefixes, one at each prefix at most: at a prefix stands what makes the first table's hop there
-/// the second's, and nothing where both tables have the same.
+/// the second's, and nothing if both tables have the same.
 pub fn places_law()
     ensures order { (old new : Entries) → IsStrictlySortedBy prefix_cmp (map place_of (between old new)) }
     ensures each { (old new : Entries) (p : Prefix) → AreEntries old → AreEntries new →
         filter (λ c. same_prefix p (place_of c)) (between old new) ≡ change_at p (entry_hop_at p old) (entry_hop_at p new) }
 {}
 
-/// Where the entries that pass a test are replaced by others that do, the changes are those between these two parts alone.
+/// If the entries that pass a test are replaced by others that do, the changes are those between these two parts alone.
 pub fn part_law()
     ensures { (t : Prefix → Bool) (T W : Entries) → AreEntries T → IsStrictlySortedBy prefix_cmp (keys_of T) → AreEntries W → AllByRecursion (λ p. t p ≡ true) (keys_of W) →
         between T (in_order (filter (λ e. not (t e.0)) T ++ W)) ≡ between (filter (λ e. t e.0) T) W }

@@ -31,7 +31,7 @@ pub fn kept_alike_law()
     ensures least { (R T : Entries) → LeastInBoth R (snapshot_of R T) }
 {}
 
-/// The kept table and its changes stay what they are as more hops get numbers, where those of all routes have them.
+/// The kept table and its changes stay what they are as more hops get numbers, if those of all routes have them.
 pub fn kept_stays_law()
     ensures load { (hops : List Address) (more : List Elem) (held : Candidates) →
         AreNumbered hops held → kept_at_load (hops_after hops more) held ≡ kept_at_load hops held }
@@ -45,7 +45,7 @@ pub fn kept_stays_law()
         ≡ kept_changes_from every hops n held T elems }
 {}
 
-/// After one elementary event more the table is what that event makes of it, and its changes come behind the others.
+/// After one elementary event more the table is what that event makes of it, and its changes come after the others.
 pub fn kept_step_law()
     ensures table { (every : ℕ) (hops : List Address) (held : Candidates) (T : Entries)
         (elems : List Elem) (elem : Elem) → kept_from every hops 1 held T (elems ++ elem ∷ [])

@@ -1,5 +1,5 @@
-//! The model of a kept table, over plain lists of entries of both families: the changes between two tables, what a repair and a
-//! snapshot make of a table, what a pass over a least table leaves as it is, and what elementary events come to.
+//! The model of a kept table, over plain lists of entries of both families. It defines the changes between two tables, what a
+//! repair and a snapshot make of a table, what a pass over a least table leaves as it is, and what elementary events come to.
 //!
 //! The definitions stand in `specs/`. Each function here is a law: it does nothing, and its clauses hold for all values.
 #![tactic(auto)]

@@ -1,4 +1,4 @@
-//! The model of what a router is told of a kept table over elementary events: its changes, in steady order where that is asked
+//! The model of what a router is told of a kept table over elementary events: its changes, in steady order if that is asked
 //! for, and what the router answers while it makes them.
 //!
 //! The definitions stand in `specs/`. Each function here is a law: it does nothing, and its clauses hold for all values.
@@ -19,7 +19,7 @@ ghost use Rattle.kept_model.specs.Kept.{AreNumberedAlong, kept_at_load, kept_by,
 ghost use Rattle.kept_model.specs.Told.{event_told, events_told, load_told, run_told};
 ghost use Rattle.kept_model.specs.Meanwhile.{AnswerMeanwhile, earlier_routes, event_routes};
 
-/// Where steady order isn't asked for, the kept table's changes are told as they stand.
+/// If steady order isn't asked for, the router is told the kept table's changes as they stand.
 pub fn plain_law()
     ensures { (every : ℕ) (hops : List Address) (held : Candidates) (elems : List Elem) →
         run_told false every hops held elems ≡ kept_load_changes hops held
@@ -34,7 +34,7 @@ pub fn told_sum_law()
         ≡ Some (kept_from every hops 1 held (kept_at_load hops held) elems) }
 {}
 
-/// What is told stays what it is as more hops get numbers, where those of all routes have them.
+/// What the router is told stays what it is as more hops get numbers, if those of all routes have them.
 pub fn told_stays_law()
     ensures load { (steady : Bool) (hops : List Address) (more : List Elem) (held : Candidates) →
         AreNumbered hops held →
@@ -45,7 +45,7 @@ pub fn told_stays_law()
         ≡ events_told steady every hops n held T elems }
 {}
 
-/// What is told of one elementary event more comes behind the rest.
+/// What the router is told of one elementary event more comes after the rest.
 pub fn told_step_law()
     ensures { (steady : Bool) (every : ℕ) (hops : List Address) (held : Candidates) (T : Entries)
         (elems : List Elem) (elem : Elem) →

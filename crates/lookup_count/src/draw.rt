@@ -36,7 +36,7 @@ impl Draws {
 ///
 /// # Errors
 ///
-/// The family has no route; or no memory.
+/// The family has no route; or out of memory.
 pub fn draw_keys<K: Key>(
     alloc: Global,
     routes: &[Entry],

@@ -4,7 +4,7 @@ use fib_prefix::{Addr, Hop, Prefix};
 
 /// The bits of an address.
 pub trait Key: Copy {
-    /// Those of a prefix, and behind them the last of these.
+    /// Those of a prefix, and after them the last of these.
     fn within(prefix: &Prefix, further: u128) -> Self;
 
     /// The address.

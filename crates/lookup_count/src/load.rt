@@ -79,7 +79,8 @@ fn load_all<I: Inputs>(
 ///
 /// # Errors
 ///
-/// The dump can't be opened or read, breaks a rule of reading, has more next hops than have numbers, or needs larger tries; or no memory.
+/// The dump can't be opened or read, breaks a rule of reading, has more next hops than have numbers, or needs larger tries; or
+/// out of memory.
 pub fn load<I: Inputs>(
     alloc: Global,
     inputs: &mut I,

@@ -1,4 +1,4 @@
-//! The look-ups.
+//! The lookups.
 
 ghost use Rattle.std.specs.Prelude.{◌≡◌};
 
@@ -19,7 +19,7 @@ pub struct Rounds {
     pub chained: u64,
 }
 
-/// What look-ups came to.
+/// What lookups came to.
 #[derive(Clone, Copy, Debug, PartialEq, Eq)]
 pub struct Told {
     /// How many nodes they visited; of more than 64 bits the lowest ones.
@@ -28,7 +28,7 @@ pub struct Told {
     pub hops: u64,
 }
 
-/// What the look-ups of each way came to.
+/// What the lookups of each way came to.
 #[derive(Clone, Copy, Debug, PartialEq, Eq)]
 pub struct Looked {
     /// Those by themselves.
@@ -38,7 +38,7 @@ pub struct Looked {
 }
 
 impl Told {
-    /// One look-up more.
+    /// One lookup more.
     fn add(&mut self, found: Found) {
         self.visits = self.visits.wrapping_add(u64::from(found.visits));
         self.hops = self.hops.wrapping_add(u64::from(found.hop.0));

@@ -1,9 +1,9 @@
-//! Look-ups by the Poptries of a dump's routes: the look-up by itself, to be measured.
+//! Lookups by the Poptries of a dump's routes: the lookup by itself, to be measured.
 //!
-//! `lookup_count FILE FAMILY COUNT APART CHAINED DIRECT` loads a dump, builds the tries of its routes with DIRECT direct bits, draws
-//! COUNT addresses within its routes of IPv4 (4) or IPv6 (6), and looks each of them up APART times by itself and CHAINED times
-//! changed by the answer before it. It prints how many places the tries need, and of each way how many nodes the look-ups visited
-//! and the sum of the numbers of their hops. What a round takes is the difference of two runs.
+//! `lookup_count FILE FAMILY COUNT APART CHAINED DIRECT` loads a dump, and builds the tries of its routes with DIRECT direct
+//! bits. It draws COUNT addresses within its routes of IPv4 (4) or IPv6 (6), and looks each of them up APART times by itself and
+//! CHAINED times changed by the answer before it. It prints how many places the tries need, and of each way how many nodes the
+//! lookups visited and the sum of the numbers of their hops. What a round takes is the difference of two runs.
 #![tactic(auto)]
 
 mod draw;
@@ -32,7 +32,7 @@ struct Words {
     sizes: Sizes,
 }
 
-/// What is told of them.
+/// What is reported of them.
 #[derive(Clone, Copy)]
 struct Figures {
     needs: FamilyNeeds,
@@ -73,7 +73,7 @@ fn rounds(words: &mut Rest) -> anyhow::Result<Rounds> {
     Ok(Rounds { apart, chained })
 }
 
-/// Room for a whole table of today, behind as many direct bits as the next word says, 18 at most.
+/// Room for a whole table of today, after as many direct bits as the next word says, 18 at most.
 fn sizes(words: &mut Rest) -> anyhow::Result<Sizes> {
     let direct = number(words)?;
     if direct > 18 {

@@ -1,4 +1,4 @@
-//! Tries of a table of one route: its answers, how many nodes they visit, what they need, and where they are refused.
+//! Tries of a table of one route: its answers, how many nodes they visit, what they need, and when they are refused.
 
 ghost use Rattle.std.specs.Prelude.{◌≡◌, ◌≤◌};
 ghost use Rattle.table_model.specs.Width.{width};
@@ -19,7 +19,7 @@ struct Size {
     leaves: u8,
 }
 
-/// What a trie tells of an address, and its needs; or why it is refused.
+/// What a trie says of an address, and its needs; or why it is refused.
 #[derive(Clone, Copy, Debug, PartialEq, Eq)]
 enum Told {
     Answer(Found, (u64, u64)),
@@ -72,7 +72,7 @@ fn answer(hop: u16, visits: u8, nodes: u64, leaves: u64) -> Told {
     )
 }
 
-/// What a trie of an IPv4 route, of this many direct bits and with arenas of these orders, tells of an address.
+/// What a trie of an IPv4 route, of this many direct bits and with arenas of these orders, says of an address.
 fn told_of(
     alloc: Global,
     route: (u32, u8),

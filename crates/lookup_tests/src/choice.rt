@@ -4,7 +4,7 @@ use fib_prefix::{Addr, Elem, Event, Peer, Prefix, Via};
 use route_choice::Candidates;
 use std::alloc::{AllocError, Global};
 
-/// A peer by its number, and a path identifier; 0 where there is none.
+/// A peer by its number, and a path identifier; 0 if there is none.
 type Way = (u32, u32);
 
 /// An IPv4 prefix's bits and length.

@@ -10,7 +10,7 @@ use poptrie_update::{Cursors, CursorsFull, Live, NotOpen, Oldest};
 use std::alloc::{AllocError, Global};
 use std::test::Fail;
 
-/// A call on open lookups, with what it is to tell.
+/// A call on open lookups, with what it is to return.
 #[derive(Clone, Copy)]
 enum Call {
     Start(Result<u8, CursorsFull>),
@@ -18,7 +18,7 @@ enum Call {
     Oldest(Oldest),
 }
 
-/// Makes the call, and tells whether it is right.
+/// Makes the call, and returns whether it is right.
 fn is_right(cursors: &mut Cursors, live: &Live, addr: &Addr, call: Call) -> bool
     requires family { addr.now.family ≡ live.now.selected.family }
     requires showing { IsShowing live.now }

@@ -1,4 +1,4 @@
-//! What an engine tells of its routes beside what a run prints, and how many changes its events need.
+//! What an engine says of its routes beside what a run prints, and how many changes its events need.
 
 ghost use Rattle.std.specs.Prelude.{◌≡◌, ◌≤◌, false, true, IfOk, OnOk};
 

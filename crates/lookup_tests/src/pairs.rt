@@ -11,7 +11,7 @@ use poptrie_set::{At, NotReady, Oldest, Pending, TrieSet};
 use std::alloc::{AllocError, Global};
 use std::test::Fail;
 
-/// What a trie of a table tells: the first reads of two addresses, and whether it is at its start; or why it is refused.
+/// What a trie of a table says: the first reads of two addresses, and whether it is at its start; or why it is refused.
 #[derive(Clone, Copy, Debug, PartialEq, Eq)]
 enum Told {
     Reads(At, At, u64, bool),
@@ -131,7 +131,7 @@ fn tell_update(
     }
 }
 
-/// 10.0.0.0/8 with another hop: two nodes and five leaves, each in blocks of its own, are made beside the old ones where they fit.
+/// 10.0.0.0/8 with another hop: two nodes and five leaves, each in blocks of its own, are made beside the old ones if they fit.
 #[test]
 fn another_hop(rt: HostRuntime) -> Result<(), Fail> {
     let prefix = Prefix::new(&Addr::v4(0x0a00_0000), 8);

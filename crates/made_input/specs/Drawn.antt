@@ -66,13 +66,13 @@ entry_state seed i = state_after seed (5 * i)
 abbrev pub entry_route : ℕ → ℕ → DrawnRoute
 entry_route seed i = route (entry_state seed i)
 
--- what it offers, of the two draws behind the route's
+-- what it offers, of the two draws after the route's
 abbrev pub entry_attrs : ℕ → ℕ → DrawnOffer
 entry_attrs seed i = attrs (state_after (entry_state seed i) 3)
 
--- ---- the updates behind n entries, four draws each
+-- ---- the updates after n entries, four draws each
 
--- where update j begins, from 0: behind the draws of the entries and of the updates before it
+-- where update j begins, from 0: after the draws of the entries and of the updates before it
 abbrev pub update_state : ℕ → ℕ → ℕ → ℕ
 update_state seed n j = state_after seed (5 * n + 4 * j)
 

@@ -4,7 +4,7 @@ use Rattle.std.specs.Prelude.{ℕ, zero, suc, ◌+◌, ◌*◌, ◌/◌, ◌%◌
 unfoldable pub next_state : ℕ → ℕ
 next_state x = (6364136223846793005 * x + 1442695040888963407) % 2 ^ 64
 
--- the state so many steps after a state
+-- the state n steps after a state
 unfoldable pub state_after : ℕ → ℕ → ℕ
 state_after x zero = x
 state_after x (suc k) = next_state (state_after x k)

@@ -52,7 +52,7 @@ fn put_attribute(kind: u8, value: &[u8], out: &mut Vec<u8>) -> Result<(), AllocE
     out.extend_from_slice(value)
 }
 
-/// Puts an AS_PATH that has one AS so many times.
+/// Puts an AS_PATH that has one AS `count` times.
 fn put_as_path(asn: u32, count: u8, out: &mut Vec<u8>) -> Result<(), AllocError>
     requires { count ≤ 63 }
     ensures { OnOk result (out.new.items ≡ out.old.items

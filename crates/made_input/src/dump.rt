@@ -97,7 +97,7 @@ fn put_entry(
     Ok(route)
 }
 
-/// Draws so many routes; the dump and the routes.
+/// Draws `count` routes; the dump and the routes.
 pub fn make_dump(
     alloc: Global,
     count: u32,

@@ -1,10 +1,10 @@
-//! Parts that are written before what stands in front of them.
+//! Parts that are written before what stands before them.
 
 ghost use Rattle.std.specs.Prelude.{◌≡◌, []};
 
 use std::alloc::Global;
 
-/// Octets that stand behind their length. They are used again for each record, so that a record takes no memory of its own.
+/// Octets that stand after their length. They are used again for each record, so that a record takes no memory of its own.
 #[derive(Drop)]
 pub struct Scratch {
     /// A prefix or attributes.

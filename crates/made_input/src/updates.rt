@@ -36,7 +36,7 @@ const HEADER: u16 = 19;
 /// The type of an UPDATE.
 const UPDATE: u8 = 2;
 
-/// Puts the body of an UPDATE that withdraws the route or announces it with the offer; `part` is for what stands behind its
+/// Puts the body of an UPDATE that withdraws the route or announces it with the offer; `part` is for what stands after its
 /// length.
 fn put_update_body(
     gone: bool,

@@ -11,6 +11,6 @@ use Rattle.fib_addr.specs.declared.entry.Entry as code_entry
 abbrev pub stands_before : Prefix → Bool → Prefix → Bool
 stands_before p itself q = is_lt (prefix_cmp q p) || (itself && is_eq (prefix_cmp q p))
 
--- so many entries stand before p, or at p if that counts
+-- n entries stand before p, or at p if that counts
 abbrev pub IsPlaceOf : Prefix → Bool → List code_entry.Entry → ℕ → Type 0
 IsPlaceOf p itself es n = IsPartitionPoint (λ (e : code_entry.Entry). stands_before p itself (prefix_as e.prefix) ≡ true) (λ (e : code_entry.Entry). stands_before p itself (prefix_as e.prefix) ≡ false) es n

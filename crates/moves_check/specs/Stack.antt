@@ -23,13 +23,13 @@ demands_as items = fold (λ st i. demand_as i ∷ st) [] items
 abbrev pub SameDemand : ModelDemand → ModelDemand → Type 0
 SameDemand i j = (i.prefix ≡ j.prefix) × SameAllowed i.hops j.hops × (i.k ≡ j.k)
 
--- the runs are those of the routes R, and look-ups among the old entries say what they would of T
+-- the runs are those of the routes R, and lookups among the old entries say what they would of T
 pub record IsAsked (a : Against) (R T : Entries) : Type 0 where
   pub runs : RunsTell a.family R a.runs.now
   pub hops : (p : Prefix) → old_at (map entry_as a.old.now) p ≡ old_at T p
   pub below : (p : Prefix) → none_below (map entry_as a.old.now) p ≡ none_below T p
 
--- what is wrong with the rest of the rows: the first that is, or behind the bound any row
+-- what is wrong with the rest of the rows: the first that is, or after the bound any row
 abbrev pub wrong_in_rest : Entries → Entries → Family → Option ℕ → List CertRow → List ModelDemand → ℕ → Option NoMoves
 wrong_in_rest R T f None rows st n = wrong_moves_row R T f rows st n
 wrong_in_rest R T f (Some b) rows st n = no_row_more rows n

@@ -182,7 +182,7 @@ fn first_wrong(
 ///
 /// What is wrong, the first in this order: a prefix that stands twice in the old table, then in the routes; a change that the
 /// table refuses, over the old entries in the order of prefixes; the least address that the changed table answers otherwise; the
-/// first wrong row; more changes than the bound. Or no memory.
+/// first wrong row; more changes than the bound. Or out of memory.
 pub fn check_moves(
     alloc: Global,
     family: Family,

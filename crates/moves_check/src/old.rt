@@ -1,4 +1,4 @@
-//! Look-ups among the old table's entries, which stand in the order of prefixes: what is within a prefix comes right after it.
+//! Lookups among the old table's entries, which stand in the order of prefixes: what is within a prefix comes right after it.
 
 ghost use Rattle.std.specs.Prelude.{◌≡◌, ◌≤◌, map, length};
 ghost use Rattle.fib_addr.specs.Views.{prefix_as, entry_as};

@@ -251,7 +251,7 @@ fn bound_of(item: &Demand) -> Result<u64, AllocError>
     one_more_if(!item.hops.contains(Hop::NONE.0), item.k)
 }
 
-/// Reads the bound, where the item stood alone on the stack.
+/// Reads the bound, if the item stood alone on the stack.
 fn read_whole(
     family: Family,
     of: Family,

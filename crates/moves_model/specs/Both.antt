@@ -28,7 +28,7 @@ family_changes f R T = between (family_table f T) (near_in f (family_table f R) 
 abbrev pub proving_rows : Family → Entries → Entries → List CertRow
 proving_rows f R T = near_rows f (family_table f R) (family_table f T)
 
--- changes that stand in the order of prefixes, as they are told: as they stand, or in steady order
+-- changes that stand in the order of prefixes, as the router gets them: as they stand, or in steady order
 abbrev pub told_in : Bool → List Change → List Change
 told_in false cs = cs
 told_in true cs = in_steady_order cs

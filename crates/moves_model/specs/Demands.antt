@@ -30,14 +30,14 @@ abbrev pub old_at : Entries → Prefix → Option ℕ
 old_at T p = entry_at p.bits (of_family p.family T)
 
 -- The region p may inherit one of S, and needs k changes then, by rules. A leaf has the one hop of its addresses and k 0, and no old
--- entry stands strictly within it; a join has what its halves have together. Where an old entry stands at the region itself, it
+-- entry stands strictly within it; a join has what its halves have together. If an old entry stands at the region itself, it
 -- may inherit any hop, and its k is one more if that entry's hop wasn't allowed.
 pub data NeedsChanges (R T : Entries) : Prefix → Allowed → ℕ → Type 0 where
   leaf : {p : Prefix} {h : ℕ} → IsPrefix p → AllGet R p h → none_below T p ≡ true → NeedsChanges R T p (set_over (old_at T p) (these (h ∷ []))) (k_over (old_at T p) (these (h ∷ [])) 0)
   join : {p : Prefix} {S Q : Allowed} {k l : ℕ} → length p.bits < width p.family → NeedsChanges R T (half_at false p) S k → NeedsChanges R T (half_at true p) Q l
       → NeedsChanges R T p (set_over (old_at T p) (allowed_by_both S Q)) (k_over (old_at T p) (allowed_by_both S Q) (k + l + gap S Q))
 
--- the bound of a family whose whole space has this set and k: one more where no hop, number 0, isn't allowed
+-- the bound of a family whose whole space has this set and k: one more if no hop, number 0, isn't allowed
 abbrev pub change_bound : Allowed → ℕ → ℕ
 change_bound S k = cond (is_allowed 0 S) k (k + 1)
 

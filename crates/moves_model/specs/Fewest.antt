@@ -22,7 +22,7 @@ pub record IsFewest (every : ℕ) (hops : List Address) (held : Candidates) (ele
   pub place : elems ≡ before ++ elem ∷ later
   pub number : row.0 ≡ length before + 1
   pub changed : changed_at (after_elems held before) elem ≡ Some prefix
-  -- in the prefix's family the table before the event and the one after its first step differ at so many prefixes
+  -- in the prefix's family the table before the event and the one after its first step differ at as many prefixes as the row says
   pub reached : let T = table_of_run true every hops held before in
       distance (of_family prefix.family T) (of_family prefix.family (moved_by true hops (after_elems held before) T elem)) ≡ row.1
   -- and no table that answers as the routes after the event differs from the one before at fewer

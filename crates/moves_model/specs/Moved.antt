@@ -31,7 +31,7 @@ after_move true R (Some p) T = with_nearest p.family R T
 abbrev pub moved_by : Bool → List Address → Candidates → Entries → Elem → Entries
 moved_by fewest hops held T elem = after_move fewest (entries_of hops (after_elem held elem)) (changed_at held elem) T
 
--- the kept table after the elementary event of this number: after its first step, and then after a snapshot where one is due
+-- the kept table after the elementary event of this number: after its first step, and then after a snapshot if one is due
 abbrev pub table_by : Bool → ℕ → List Address → ℕ → Candidates → Entries → Elem → Entries
 table_by fewest every hops n held T elem =
     snapshot_if (is_due every n) (entries_of hops (after_elem held elem)) (moved_by fewest hops held T elem)

@@ -15,12 +15,12 @@ Nearest w R T U = Alike w R U × ((V : Table) → IsTable w V → Alike w R V �
 abbrev pub near_bound : ℕ → Table → Table → ℕ
 near_bound w R T = cond (is_allowed 0 (near_set w (answers R []) T)) (near_k w (answers R []) T) (near_k w (answers R []) T + 1)
 
--- the table that differs at so many
+-- the table that differs at just as many
 abbrev pub nearest : ℕ → Table → Table → Table
 nearest w R T = near_of w (answers R []) T 0
 
 -- ---- regions that need no change
 
--- where the region of d more bits inherits h, the table gives it the answers f
+-- if the region of d more bits inherits h, the table gives it the answers f
 abbrev pub AnswersAs : ℕ → (List Bool → ℕ) → Table → ℕ → Type 0
 AnswersAs d f T h = (a : List Bool) → length a ≡ d → lpm T a h ≡ f a

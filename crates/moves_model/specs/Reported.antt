@@ -1,4 +1,5 @@
--- What is told of the kept table event by event: its changes, and how many of them each event needed that changed a chosen hop.
+-- What the router is told of the kept table event by event: its changes, and how many of them each event needed that changed a
+-- chosen hop.
 use Rattle.std.specs.Prelude.{ℕ, ◌+◌, List, [], ◌∷◌, ◌++◌, Bool, length, Option, Some, None}
 use Rattle.table_model.specs.Address.{Address, Prefix}
 use Rattle.table_model.specs.Entries.{Entries}
@@ -22,7 +23,8 @@ abbrev pub then_changes : Bool → ℕ → List Address → ℕ → Candidates �
 then_changes fewest every hops n held T elem =
     between (moved_by fewest hops held T elem) (table_by fewest every hops n held T elem)
 
--- what is told of the elementary event of this number: both, each in itself in the order of prefixes, or in steady order
+-- what the router is told of the elementary event of this number: both, each in itself in the order of prefixes, or in steady
+-- order
 abbrev pub told_of : Bool → Bool → ℕ → List Address → ℕ → Candidates → Entries → Elem → List Change
 told_of fewest steady every hops n held T elem =
     steady_if steady (first_changes fewest hops held T elem) ++ steady_if steady (then_changes fewest every hops n held T elem)

@@ -1,6 +1,6 @@
 -- The passes over the regions of routes beside an old table, which is to change at as few prefixes as can be. They are our own,
--- after those of Draves, King, Venkatachary and Zill, 'Constructing Optimal IP Routing Tables' (INFOCOM 1999), section 3: up,
--- where each region gets the hops that it may inherit at no further change; and down, where an old entry stays, goes or gets
+-- after those of Draves, King, Venkatachary and Zill, 'Constructing Optimal IP Routing Tables' (INFOCOM 1999), section 3: up:
+-- each region gets the hops that it may inherit at no further change; and down: an old entry stays, goes or gets
 -- another hop, and a new one comes. Here a region with an old entry may inherit any hop, since its own entry counts there.
 use Rattle.std.specs.Prelude.{ℕ, zero, suc, ◌+◌, List, [], ◌∷◌, Bool, true, false, cond, Option, Some, None}
 use Rattle.table_model.specs.Table.{Table, root, half, inherit}
@@ -17,37 +17,37 @@ abbrev pub is_allowed : ℕ → Allowed → Bool
 is_allowed h any = true
 is_allowed h (these S) = is_in h S
 
--- what two halves allow together: the hops that both allow, or where there are none those that either does; any with others
+-- what two halves allow together: the hops that both allow, or, if there are none, those that either does; any with others
 -- gives the others
 abbrev pub allowed_by_both : Allowed → Allowed → Allowed
 allowed_by_both any T = T
 allowed_by_both (these S) any = these S
 allowed_by_both (these S) (these T) = these (joint S T)
 
--- 1 where no hop is allowed by both
+-- 1 if no hop is allowed by both
 abbrev pub gap : Allowed → Allowed → ℕ
 gap any T = 0
 gap (these S) any = 0
 gap (these S) (these T) = apart S T
 
--- the least of them; where any is allowed it isn't asked for
+-- the least of them; if any is allowed it isn't asked for
 abbrev pub least_allowed : Allowed → ℕ
 least_allowed any = 0
 least_allowed (these S) = smallest S
 
--- What a region may inherit at no further change, from what its own entry should be, or what comes from above where it has none:
--- any hop where it has an old entry.
+-- What a region may inherit at no further change, from what its own entry should be, or what comes from above if it has none:
+-- any hop if it has an old entry.
 abbrev pub set_over : Option ℕ → Allowed → Allowed
 set_over None S = S
 set_over (Some t) S = any
 
--- how many changes a region needs then, from those strictly within: one more where its old entry's hop isn't allowed
+-- how many changes a region needs then, from those strictly within: one more if its old entry's hop isn't allowed
 abbrev pub k_over : Option ℕ → Allowed → ℕ → ℕ
 k_over None S m = m
 k_over (Some t) S m = cond (is_allowed t S) m (m + 1)
 
 -- Of a region of d more bits with the answers f and the old entries T: what its own entry should be, or what comes from above
--- where it has none. Then its halves need the fewest changes.
+-- if it has none. Then its halves need the fewest changes.
 unfoldable pub inner_set : ℕ → (List Bool → ℕ) → Table → Allowed
 inner_set zero f T = these (f [] ∷ [])
 inner_set (suc d) f T =
@@ -69,8 +69,8 @@ near_set d f T = set_over (root T) (inner_set d f T)
 abbrev pub near_k : ℕ → (List Bool → ℕ) → Table → ℕ
 near_k d f T = k_over (root T) (inner_set d f T) (inner_k d f T)
 
--- The region's entry where it inherits h. An old one stays where its hop is allowed; else it goes where h is; else its hop becomes
--- the least of those that are. Without an old one none comes where h is allowed, else one with the least.
+-- The region's entry if it inherits h. An old one stays if its hop is allowed; else it goes if h is; else its hop becomes
+-- the least of those that are. Without an old one none comes if h is allowed, else one with the least.
 abbrev pub new_entry : Allowed → Option ℕ → ℕ → Option ℕ
 new_entry S None h = cond (is_allowed h S) None (Some (least_allowed S))
 new_entry S (Some t) h = cond (is_allowed t S) (Some t) (cond (is_allowed h S) None (Some (least_allowed S)))

@@ -16,7 +16,8 @@ use Rattle.moves_model.specs.Demands.{Demand, leaf_demand, join_demand, change_b
 
 -- What is wrong. `Twice`: the prefix stands twice in the old table or in the routes. `Apply`: the change, counted from 1, isn't
 -- possible. `NotSame`: the address gets the first hop from the routes and the second after the changes. `Shape`, `LeafWrong` and
--- `JoinWrong`: the row, counted from 1, isn't right. `NotShortest`: there are so many changes, and the second number would do.
+-- `JoinWrong`: the row, counted from 1, isn't right. `NotShortest`: there are as many changes as the first number says, and
+-- the second number would do.
 pub data NoMoves : Type 0 where
   Twice : Prefix → NoMoves
   Apply : ℕ → NoMoves
@@ -26,7 +27,7 @@ pub data NoMoves : Type 0 where
   JoinWrong : ℕ → ℕ → ℕ → NoMoves
   NotShortest : ℕ → ℕ → NoMoves
 
--- the table after the change, or as it is where that isn't possible
+-- the table after the change, or as it is if that isn't possible
 abbrev pub changed_by : Change → Entries → Entries
 changed_by c T = unwrap_or (after_change c T) T
 

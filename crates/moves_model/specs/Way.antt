@@ -1,4 +1,4 @@
--- The nearest table where the old one answers rightly outside a prefix p, an event's: what stays, and the one prefix above p that
+-- The nearest table if the old one answers rightly outside a prefix p, an event's: what stays, and the one prefix above p that
 -- may change. A region of d more bits has the answers f and the old entries T, and p is a way down from it.
 use Rattle.std.specs.Prelude.{◌≡◌, ◌≢◌, ℕ, zero, suc, ◌-◌, ◌≤◌, List, [], ◌∷◌, ◌++◌, Bool, true, false, not, ◌&&◌, ◌||◌, cond, Option, length, is_some, is_none}
 use Rattle.table_model.specs.Bits.{begins}
@@ -14,7 +14,7 @@ unfoldable pub fills : ℕ → Table → Bool
 fills zero T = is_some (root T)
 fills (suc d) T = is_some (root T) || (fills d (half false T) && fills d (half true T))
 
--- what it may inherit where T gives the answers under h
+-- what it may inherit if T gives the answers under h
 abbrev pub allowed_beside : ℕ → Table → ℕ → Allowed
 allowed_beside d T h = cond (fills d T) any (these (h ∷ []))
 
@@ -40,7 +40,7 @@ turn [] d T = []
 turn (b ∷ p) zero T = []
 turn (b ∷ p) (suc d) T = cond (is_clear (b ∷ p) (suc d) T) [] (b ∷ turn p d (half b T))
 
--- the new entry of a region on the way that inherits h: the old one's, but where the way is clear from here on
+-- the new entry of a region on the way that inherits h: the old one's, except if the way is clear from here on
 abbrev pub way_entry : List Bool → ℕ → (List Bool → ℕ) → Table → ℕ → Option ℕ
 way_entry p d f T h = cond (is_clear p d T) (new_entry (allowed_at d f T p) (root T) h) (root T)
 
@@ -57,7 +57,7 @@ pass_to (b ∷ p) (suc d) f T h =
     let o = way_entry (b ∷ p) (suc d) f T h in
     join_by b o (pass_to p d (side b f) (half b T) (inherit o h)) (half (not b) T)
 
--- what p comes to inherit where the region inherits h
+-- what p comes to inherit if the region inherits h
 unfoldable pub comes_to : List Bool → ℕ → (List Bool → ℕ) → Table → ℕ → ℕ
 comes_to [] d f T h = h
 comes_to (b ∷ p) zero f T h = h
@@ -96,13 +96,13 @@ event_hop w R p T =
 abbrev pub is_blocked : Bool → ℕ → Table → Bool
 is_blocked b d T = is_some (root (half b T)) || not (fills d (half (not b) T))
 
--- the turn, where the way is gone to q, s is left of it, and r is the last prefix so far at which it was blocked
+-- the turn, if the way is gone to q, s is left of it, and r is the last prefix so far at which it was blocked
 abbrev pub turn_by : List Bool → List Bool → List Bool → ℕ → Table → List Bool
 turn_by q r s d T = cond (is_clear s d T) r (q ++ turn s d T)
 
 -- ---- within p
 
--- T gives the answers in each part of the region that the routes S fill, where the region inherits h in T.
+-- T gives the answers in each part of the region that the routes S fill, if the region inherits h in T.
 abbrev pub FilledGive : ℕ → (List Bool → ℕ) → Table → Table → ℕ → Type 0
 FilledGive d f S T h = (q : List Bool) → length q ≤ d → fills (d - length q) (cut q S) ≡ true
     → (a : List Bool) → length a ≡ d - length q → lpm (cut q T) a (above q T h) ≡ f (q ++ a)

@@ -52,13 +52,13 @@ pub fn cert_near_law()
         length (between T (near_in f R T)) ≡ near_bound (width f) (of_family f R) (of_family f T) }
 {}
 
-/// There are too many changes exactly where some table that answers as the routes differs from the old one at fewer prefixes.
+/// There are too many changes exactly if some table that answers as the routes differs from the old one at fewer prefixes.
 pub fn not_shortest_law()
     ensures { (f : Family) (R T : Entries) (cs : List Change) → AreEntries T → (too_many R T f cs ≢ None) ↔
         ((U : Table) × IsTable (width f) U × Alike (width f) (of_family f R) U × (distance (of_family f T) U < length cs)) }
 {}
 
-/// Nothing is wrong exactly where the rows prove the changes shortest.
+/// Nothing is wrong exactly if the rows prove the changes shortest.
 pub fn verdict_law()
     ensures { (f : Family) (T R : Entries) (cs : List Change) (rows : List CertRow) → AllByRecursion RowFits rows
         → (moves_verdict f T R cs rows ≡ None) ↔ AreProvedShortest f R T cs rows }

@@ -1,5 +1,6 @@
 //! The model of the shortest list of changes after one event. The old table answers as the routes do outside one prefix, the event's.
-//! Then the nearest table differs from it within the prefix and at one prefix above at most, which the old table alone tells.
+//! Then the nearest table differs from it within the prefix and at one prefix above at most, which the old table alone
+//! determines.
 //!
 //! The definitions stand in `specs/`. Each function here is a law: it does nothing, and its clauses hold for all values.
 
@@ -13,7 +14,7 @@ ghost use Rattle.moves_model.specs.Nearest.{AnswersAs, nearest};
 ghost use Rattle.moves_model.specs.Way.{fills, allowed_beside, GivesBeside, allowed_at, is_clear, turn, AlikeBeside, SameBut, turn_entry, event_hop, is_blocked, turn_by, FilledGive};
 
 /// A region in which the table gives the answers under h may inherit any hop if each of its addresses is within an entry there, else
-/// h alone, and it needs no change then. Under another hop it gets one entry at its prefix, where none stood, of h, and all below
+/// h alone, and it needs no change then. Under another hop it gets one entry at its prefix, which had none, of h, and all below
 /// stays.
 pub fn aside_law()
     ensures set { (d : ℕ) (f : List Bool → ℕ) (T : Table) (h : ℕ) → AnswersAs d f T h → near_set d f T ≡ allowed_beside d T h }

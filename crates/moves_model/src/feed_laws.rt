@@ -29,7 +29,7 @@ ghost use Rattle.moves_model.specs.Moved.{table_by, table_from, table_of_run, wi
 ghost use Rattle.moves_model.specs.Reported.{first_changes, moves_from, moves_of, moves_of_run, told_from, told_of, told_of_run};
 ghost use Rattle.moves_model.specs.Fewest.{IsFewest};
 
-/// Where the fewest changes aren't asked for, the table is the kept one that is repaired, and its changes are told.
+/// If the fewest changes aren't asked for, the table is the kept one that is repaired, and the router is told its changes.
 pub fn repaired_law()
     ensures table { (every n : ℕ) (hops : List Address) (held : Candidates) (T : Entries)
         (elems : List Elem) →
@@ -67,7 +67,7 @@ pub fn order_law()
         × IsStrictlySortedBy prefix_cmp (keys_of (table_of_run fewest every hops held elems)) }
 {}
 
-/// What is told of the load and of the elementary events after it adds up to the table.
+/// What the router is told of the load and of the elementary events after it adds up to the table.
 pub fn told_sum_law()
     ensures { (fewest steady : Bool) (every : ℕ) (hops : List Address) (held : Candidates)
         (elems : List Elem) → AllByRecursion IsElem elems →
@@ -87,9 +87,9 @@ pub fn table_alike_law()
         (table_by fewest every hops n held T elem) }
 {}
 
-/// With the fewest changes asked for, an elementary event that changes a chosen hop first makes a shortest list of changes. Just these
-/// events have rows, each with the number of these changes, which are all that are told of it if no snapshot is due: no table that
-/// answers as the routes after the event differs from the one before at fewer prefixes.
+/// With the fewest changes asked for, an elementary event that changes a chosen hop first makes a shortest list of changes: no
+/// table that answers as the routes after the event differs from the one before at fewer prefixes. Just these events have rows,
+/// each with the number of these changes. They are all that the router is told of the event if no snapshot is due.
 pub fn shortest_law()
     ensures changes { (hops : List Address) (held : Candidates) (T : Entries) (elem : Elem)
         (p : Prefix) → AllByRecursion IsPrefix (keys_of T) →
@@ -112,8 +112,8 @@ pub fn shortest_law()
         AllByRecursion (IsFewest every hops held elems) (moves_of_run true every hops held elems) }
 {}
 
-/// The table, what is told and how many changes each event needed stay what they are as more hops get numbers, where those of all
-/// routes have them.
+/// The table, what the router is told and how many changes each event needed stay what they are as more hops get numbers, if
+/// those of all routes have them.
 pub fn told_stays_law()
     ensures table { (fewest : Bool) (every n : ℕ) (hops : List Address) (more : List Elem)
         (held : Candidates) (T : Entries) (elems : List Elem) → AreNumberedAlong hops held elems →
@@ -129,7 +129,8 @@ pub fn told_stays_law()
         ≡ moves_from fewest every hops n held T elems }
 {}
 
-/// After one elementary event more the table is what that event makes of it, and what is told of it comes behind the rest.
+/// After one elementary event more the table is what that event makes of it, and what the router is told of it comes after the
+/// rest.
 pub fn told_step_law()
     ensures table { (fewest : Bool) (every : ℕ) (hops : List Address) (held : Candidates)
         (T : Entries) (elems : List Elem) (elem : Elem) →
@@ -150,7 +151,7 @@ pub fn told_step_law()
         (table_from fewest every hops 1 held T elems) elem }
 {}
 
-/// More elementary events go on from the table after those before them, and what is told of them comes behind the rest.
+/// More elementary events go on from the table after those before them, and what the router is told of them comes after the rest.
 pub fn longer_law()
     ensures table { (fewest : Bool) (every : ℕ) (hops : List Address) (held : Candidates)
         (T : Entries) (elems more : List Elem) →

@@ -33,7 +33,8 @@ pub fn bound_law()
     ensures { (w : ℕ) (R T U : Table) → Alike w R U → near_bound w R T ≤ distance T U }
 {}
 
-/// The downward pass gives a table that answers as R and differs from T at just so many prefixes. So no table that does is nearer.
+/// The downward pass gives a table that answers as R and differs from T at exactly that many prefixes. So no table that does is
+/// nearer.
 pub fn near_law()
     ensures { (w : ℕ) (R T : Table) → IsTable w T →
         IsTable w (nearest w R T) × Nearest w R T (nearest w R T) × (distance T (nearest w R T) ≡ near_bound w R T) }

@@ -26,16 +26,16 @@ pub fn parts_law()
         AreShortestInBoth (in_order R) (in_order T) (xs ++ ys) }
 {}
 
-/// The changes of both families, made one after another in the order in which they are told, make of the router's table one that answers as
-/// the routes do, and no table that does differs from it at fewer prefixes.
+/// The changes of both families, in the order in which the router gets them, are made one after another. They make of the
+/// router's table one that answers as the routes do, and no table that does differs from it at fewer prefixes.
 pub fn both_law()
     ensures { (R T : Entries) (steady : Bool) →
         AllByRecursion IsPrefix (keys_of R) → AllByRecursion IsPrefix (keys_of T) →
         AreShortestInBoth (in_order R) (in_order T) (told_in steady (both_changes R T)) }
 {}
 
-/// In steady order no packet goes astray: while a router makes them one by one, each address is answered as by its table before or as by
-/// the routes, and once it is answered as by the routes it stays so.
+/// In steady order no packet goes astray. While a router makes the changes one by one, each address is answered as by its
+/// table before or as by the routes. Once it is answered as by the routes it stays so.
 pub fn claims_meanwhile_law()
     ensures { (R T : Entries) → AllByRecursion IsPrefix (keys_of R) → AllByRecursion IsPrefix (keys_of T) →
         AnswerSteadily (told_in true (both_changes R T)) (in_order T) (in_order T) (in_order R) }

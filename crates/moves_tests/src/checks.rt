@@ -157,7 +157,7 @@ fn printed_changes_are_judged(rt: HostRuntime) -> Result<(), Fail> {
     Ok(())
 }
 
-/// The five changes that would mend the least table afresh, where one will do.
+/// The five changes that would mend the least table afresh, although one will do.
 #[test]
 fn more_changes_than_are_needed_are_refused(rt: HostRuntime) -> Result<(), Fail> {
     let alloc = rt.alloc();

@@ -28,7 +28,7 @@ struct Check<'a> {
     said: Said,
 }
 
-/// Where the rows are right, or aren't reached.
+/// If the rows are right, or aren't reached.
 const TABLES: [Check<'static>; 11] = [
     // right
     Check {
@@ -251,7 +251,7 @@ const TABLES: [Check<'static>; 11] = [
     },
 ];
 
-/// Where a row is wrong.
+/// If a row is wrong.
 const ROWS: [Check<'static>; 10] = [
     // another hop in the last quarter
     Check {
@@ -297,7 +297,7 @@ const ROWS: [Check<'static>; 10] = [
         rows: &[],
         said: Said::Shape(1),
     },
-    // a row behind the bound
+    // a row after the bound
     Check {
         old: &[(0x00000000, 0, 1), (0x40000000, 2, 2), (0xc0000000, 2, 2)],
         routes: &[(0x00000000, 0, 3), (0x40000000, 2, 2), (0xc0000000, 2, 2)],
@@ -416,7 +416,7 @@ const ROWS: [Check<'static>; 10] = [
     },
 ];
 
-/// Where a number is wrong, or an old entry stands within a leaf.
+/// If a number is wrong, or an old entry stands within a leaf.
 const NUMBERS: [Check<'static>; 8] = [
     // right
     Check {

@@ -44,7 +44,7 @@ abbrev pub refused_or : {A : Type 0} → Option Fault → Result A Fault → Res
 refused_or (Some fault) other = Err fault
 refused_or None other = other
 
--- the record that stands at the front, or the refusal of its Length; nothing where a header or a body is cut
+-- the record that comes first, or the refusal of its Length; nothing if a header or a body is cut
 abbrev pub framer_next_in : ℕ → Result (Record × List ℕ) Rule → Result (Option Record) Fault
 framer_next_in number (Ok read) = Ok (Some read.0)
 framer_next_in number (Err TooLong) = Err (record { number = number; rule = TooLong })

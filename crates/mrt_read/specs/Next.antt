@@ -1,4 +1,4 @@
--- One record of a framer, read behind a peer table.
+-- One record of a framer, read after a peer table.
 use Rattle.std.specs.Prelude.{◌≡◌, ℕ, ◌+◌, ◌<◌, ◌≤◌, ◌⊎◌, List, [], length, Option, Some, None, Result, Ok, Err}
 use Rattle.route_model.specs.Events.{Event}
 use Rattle.wire_model.specs.declared.rule.Rule.{Rule}

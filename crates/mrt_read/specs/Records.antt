@@ -18,7 +18,7 @@ abbrev pub result_of : {A B : Type 0} → (A → B) → Result A Malformed → R
 result_of view (Ok x) = Ok (view x)
 result_of view (Err malformed) = Err (fault_of malformed)
 
--- the record behind this header, and what follows it
+-- the record after this header, and what follows it
 abbrev pub record_behind : List ℕ → Header → Record × List ℕ
 record_behind octets header = (record { kind = header.kind; subtype = header.sub; body = take header.length (drop 12 octets) }, drop (12 + header.length) octets)
 

@@ -52,7 +52,7 @@ pub record ReaderStands (fed : List ℕ) (read : Progress) (reader : Reader) : T
   pub goes_on : IfNone (reader_refusal reader) (ReadsEvents fed read (reader_left reader))
   pub refuses : IfSome (reader_refusal reader) (λ fault. (fault.number ≡ read.records) × ReadsNo fed (record { read = read; rule = fault.rule }))
 
--- what the record at the front says behind this peer table, or the rule that it breaks; nothing where a header or a body is cut
+-- what the first record says after this peer table, or the rule that it breaks; nothing if a header or a body is cut
 abbrev pub reader_next_in : ℕ → Option (List Peer) → Result (Record × List ℕ) Rule → Result (Option (List Event)) Fault
 reader_next_in number table (Ok read) = at_record number (record_in table read.0 >>= λ told. Ok (Some (said_events told.1)))
 reader_next_in number table (Err TooLong) = Err (record { number = number; rule = TooLong })
@@ -62,13 +62,13 @@ reader_next_in number table (Err rule) = Ok None
 abbrev pub reader_next : Reader → Result (Option (List Event)) Fault
 reader_next reader = framing.refused_or (reader_refusal reader) (reader_next_in (reader_records reader) (peers reader) (record_at (reader_left reader)))
 
--- the answer is this, but for want of memory
+-- the answer is this, but for running out of memory
 abbrev pub ReaderAnswers : {A : Type 0} → Result (Option (Vec code_event.Event A)) EventsError → Result (Option (List Event)) Fault → Type 0
 ReaderAnswers (Ok told) due = due ≡ Ok (option_map (λ events. map event_as events.items) told)
 ReaderAnswers (Err (Malformed malformed)) due = due ≡ Err (fault_of malformed)
 ReaderAnswers (Err NoMemory) due = Unit {0}
 
--- the same where the events take the place of what stood in a list: true where a record was read, which they are of
+-- the same if the events take the place of what stood in a list: true if a record was read, which they are of
 abbrev pub ReaderFills : Result Bool EventsError → List Event → Result (Option (List Event)) Fault → Type 0
 ReaderFills (Ok true) events due = due ≡ Ok (Some events)
 ReaderFills (Ok false) events due = due ≡ Ok None

@@ -21,7 +21,7 @@ pub record HasEvents (events : List Event) (octets : List ℕ) : Type 0 where
   pub all : input (octets_read octets) ≡ Ok read
   pub are : read.events ≡ events
 
--- The first record that breaks a rule has this number and breaks this rule. Where there are more octets than are read, it isn't cut at the end of those.
+-- The first record that breaks a rule has this number and breaks this rule. If there are more octets than are read, it isn't cut at the end of those.
 pub record IsBad (malformed : code_malformed.Malformed) (octets : List ℕ) : Type 0 where
   pub stopped : Stopped
   pub stops : input (octets_read octets) ≡ Err stopped
@@ -34,7 +34,7 @@ abbrev pub EndsOrIsCut : List ℕ → Result Progress Stopped → Type 0
 EndsOrIsCut octets (Ok read) = Unit {0}
 EndsOrIsCut octets (Err stopped) = is_cut octets stopped.read.records ≡ true
 
--- octets behind which an input may be read on: they break no rule but that their last record is cut
+-- octets after which an input may be read on: they break no rule but that their last record is cut
 abbrev pub MayGoOn : List ℕ → Type 0
 MayGoOn octets = EndsOrIsCut octets (input octets)
 
@@ -43,14 +43,14 @@ pub record IsTooLarge (octets : List ℕ) : Type 0 where
   pub large : 2 ^ 36 < length octets
   pub ends : MayGoOn (octets_read octets)
 
--- why no events are given of these octets; a fault of reading and want of memory can come of any
+-- why no events are given of these octets; a fault of reading and running out of memory can come of any
 abbrev pub IsInputRefused : WholeError → List ℕ → Type 0
 IsInputRefused (Malformed malformed) octets = IsBad malformed octets
 IsInputRefused TooLarge octets = IsTooLarge octets
 IsInputRefused NoMemory octets = Unit {0}
 IsInputRefused Fault octets = Unit {0}
 
--- a fault comes only where the count of the name rose, and every other answer leaves all counts
+-- a fault comes only if the count of the name rose, and every other answer leaves all counts
 abbrev pub FaultRose : {T : Type 0} → (List ℕ → ℕ) → (List ℕ → ℕ) → List ℕ → Result T WholeError → Type 0
 FaultRose before now name (Err Fault) = Rose (before name) (now name)
 FaultRose before now name result = now ≡ before

@@ -3,10 +3,10 @@
 //! A record is a Timestamp of 4 octets, a Type and a Subtype of 2 each, a Length of 4, all big-endian, and Length octets
 //! of body (RFC 6396, section 2).
 //!
-//! The framer keeps the octets that no whole record has used up, and in front of them, until `next` finds no further record,
+//! The framer keeps the octets that no whole record has used up, and before them, until `next` finds no further record,
 //! the records that it gave since it last found none: a body is lent where it lies. Then these go, and what is left moves to
-//! the front. What is left then was fed since `next` last found none, but for a record that is cut, which moves at most once.
-//! So `feed` and `next` cost what is fed, amortised, whatever the sizes of records and pieces. The memory is that of a
+//! the first place. What is left then was fed since `next` last found none, but for a record that is cut, which moves at most
+//! once. So `feed` and `next` cost what is fed, amortised, whatever the sizes of records and pieces. The memory is that of a
 //! record and of what is fed at once.
 
 ghost use Rattle.std.specs.Prelude.{◌≡◌, ◌+◌, ◌-◌, ◌^◌, ◌≤◌, ◌<◌, [], length, drop, vec_len, IfErr, IfOk, OnErr, OnOk, None, option_map};
@@ -42,8 +42,8 @@ pub struct Framed<'a> {
 pub struct Malformed {
     /// The record's number in its input, from 0.
     pub number: u64,
-    /// The rule. The framer tells `HeaderCut` and `BodyCut` where the input ends within a header or a body, and `TooLong` where Length is
-    /// over 16,777,216; the others are about bodies, whose readers tell them.
+    /// The rule. The framer reports `HeaderCut` and `BodyCut` if the input ends within a header or a body, and `TooLong` if
+    /// Length is over 16,777,216; the others are about bodies, whose readers report them.
     pub rule: Rule,
 }
 
@@ -55,7 +55,7 @@ struct Header {
     length: usize,
 }
 
-/// The header at the front, where the whole record is there; or the rule that it breaks.
+/// The header that comes first, if the whole record is there; or the rule that it breaks.
 #[tactic(auto, unfolding(wire_model::specs::Record::record_at))]
 fn read_header(bytes: &[u8]) -> Result<Header, Rule>
     ensures value { Gives (record_behind bytes.now) result (record_at bytes.now) }
@@ -87,7 +87,7 @@ fn is_too_long(rule: Rule) -> bool
     matches!(rule, Rule::TooLong)
 }
 
-/// Lets the first `n` octets go, and moves the others to the front.
+/// Lets the first `n` octets go, and moves the others to the first place.
 fn remove_front(octets: &mut Vec<u8>, n: usize)
     requires { n ≤ vec_len octets.old }
     ensures { octets.new.items ≡ drop n octets.old.items }
@@ -147,7 +147,7 @@ impl Framer {
         Ok(())
     }
 
-    /// How many octets it holds: those fed, less those of the records taken. At most 16,777,227 where `next` found no
+    /// How many octets it holds: those fed, less those of the records taken. At most 16,777,227 if `next` found no
     /// further record. It takes no memory.
     pub fn held(&self) -> u64
         ensures { result ≡ length (framer_left self.now) }
@@ -166,7 +166,7 @@ impl Framer {
         }
     }
 
-    /// Takes the next whole record of what was fed; `None` where there is none.
+    /// Takes the next whole record of what was fed; `None` if there is none.
     ///
     /// A Length over the limit is refused with `TooLong` as soon as its header is there, and then for good.
     pub fn next(&mut self) -> Result<Option<Framed<'_>>, Malformed>
@@ -213,7 +213,7 @@ impl Framer {
         self.number -= 1;
     }
 
-    /// Whether the input may end here: the refusal that is kept, or `HeaderCut` or `BodyCut` where a header or a body is cut.
+    /// Whether the input may end here: the refusal that is kept, or `HeaderCut` or `BodyCut` if a header or a body is cut.
     ///
     /// It is asked once `next` gives no further record.
     pub fn finish(&self) -> Result<(), Malformed>

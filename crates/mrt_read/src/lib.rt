@@ -1,6 +1,6 @@
 //! The events of an input of MRT records, record by record, however the input was cut into pieces.
 //!
-//! A `Reader` is fed the octets as they come. Each whole record is read by the rules of its type, behind the latest peer
+//! A `Reader` is fed the octets as they come. Each whole record is read by the rules of its type, after the latest peer
 //! table; a record of a type that isn't read is skipped and counted. The first record that breaks a rule ends the
 //! reading for good, and none of its events is given.
 //!

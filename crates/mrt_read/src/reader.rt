@@ -26,7 +26,7 @@ pub enum EventsError {
     NoMemory,
 }
 
-/// How many records are skipped by reading one that told this.
+/// How many records are skipped by reading one that said this.
 fn skips(told: RecordTold) -> u64
     ensures { result ≡ views.skips told }
 {
@@ -36,7 +36,7 @@ fn skips(told: RecordTold) -> u64
     }
 }
 
-/// How many messages are treated as withdrawals by reading a record that told this.
+/// How many messages are treated as withdrawals by reading a record that said this.
 fn treats(told: RecordTold) -> u64
     ensures { result ≡ views.treats told }
 {
@@ -46,7 +46,7 @@ fn treats(told: RecordTold) -> u64
     }
 }
 
-/// What the next whole record told, its events in `events`; or `None` where there is none.
+/// What the next whole record said, its events in `events`; or `None` if there is none.
 fn read_next(
     alloc: Global,
     framer: &mut Framer,
@@ -121,10 +121,10 @@ impl Reader {
         self.framer.feed(piece)
     }
 
-    /// Reads the next whole record of what was fed: its events take the place of what stood in `events`, none where it is skipped.
-    /// False where there is no whole record; then `events` is empty.
+    /// Reads the next whole record of what was fed: its events take the place of what stood in `events`, none if it is skipped.
+    /// False if there is no whole record; then `events` is empty.
     ///
-    /// The first record that breaks a rule is refused, for good, and none of its events is given. Where memory runs out,
+    /// The first record that breaks a rule is refused, for good, and none of its events is given. If memory runs out,
     /// the reader is as it was.
     pub fn read_events(&mut self, events: &mut Vec<Event>) -> Result<bool, EventsError>
         ensures gives { ReaderFills result (map event_as events.new.items) (reader_next self.old) }
@@ -155,7 +155,7 @@ impl Reader {
         }
     }
 
-    /// Takes the next whole record, as `read_events` does, and gives its events; `None` where there is no whole record.
+    /// Takes the next whole record, as `read_events` does, and returns its events; `None` if there is no whole record.
     pub fn take_events(&mut self) -> Result<Option<Vec<Event>>, EventsError>
         ensures gives { ReaderAnswers result (reader_next self.old) }
         ensures after { ReaderTook self.old result self.new }
@@ -168,7 +168,7 @@ impl Reader {
         }
     }
 
-    /// Whether the input may end here: the refusal that is kept, or `HeaderCut` or `BodyCut` where a header or a body is cut.
+    /// Whether the input may end here: the refusal that is kept, or `HeaderCut` or `BodyCut` if a header or a body is cut.
     ///
     /// It may be asked only once `take_events` gives no further events, or a refusal: a whole record that is left would be
     /// passed over.

@@ -1,4 +1,4 @@
--- What a reader adds behind the events that there are: what the definition gives, unless it refuses or memory runs out.
+-- What a reader adds after the events that there are: what the definition gives, unless it refuses or memory runs out.
 use Rattle.std.specs.Prelude.{◌≡◌, List, ◌++◌, Option, Result, Ok, Err, Bool}
 use Rattle.table_model.specs.Address.{Address}
 use Rattle.route_model.specs.Events.{Peer, Event}

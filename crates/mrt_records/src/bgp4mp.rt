@@ -75,7 +75,7 @@ fn push_change(events: &mut Vec<Event>, bytes: &[u8], peer: Peer) -> Result<bool
     Ok(false)
 }
 
-/// What records of this subtype hold, or `None` where they are skipped.
+/// What records of this subtype hold, or `None` if they are skipped.
 fn session_of(sub: u16) -> Option<Session>
     ensures { result ≡ model.session_of sub }
 {
@@ -101,7 +101,7 @@ fn has_wide_as(session: Session) -> bool
     }
 }
 
-/// Adds the events of a state change or a message of the peer, and tells whether it is treated as a withdrawal.
+/// Adds the events of a state change or a message of the peer, and returns whether it is treated as a withdrawal.
 fn push_said(
     events: &mut Vec<Event>,
     bytes: &[u8],
@@ -117,7 +117,7 @@ fn push_said(
     }
 }
 
-/// Adds the events of a record behind its Address Family; `None` where that is another one than IPv4 and IPv6.
+/// Adds the events of a record after its Address Family; `None` if that is another one than IPv4 and IPv6.
 #[tactic(auto, unfolding(wire_model::specs::Update::session_behind))]
 fn push_session(
     events: &mut Vec<Event>,
@@ -138,11 +138,11 @@ fn push_session(
     Ok(Some(treated))
 }
 
-/// Adds the events of a BGP4MP record of this subtype, or of a BGP4MP_ET record, which has microseconds before it, and tells whether its
-/// message is treated as a withdrawal. `None` is a record that is skipped: its subtype isn't one of `STATE_CHANGE` (0), `MESSAGE` (1),
-/// `MESSAGE_AS4` (4), `STATE_CHANGE_AS4` (5), `MESSAGE_LOCAL` (6), `MESSAGE_AS4_LOCAL` (7), nor one of the four with path identifiers
-/// (8 to 11, RFC 8050, section 3), or its Address Family is neither IPv4 nor IPv6. Where it is refused, or memory runs out, some events
-/// may have been added.
+/// Adds the events of a BGP4MP record of this subtype, or of a BGP4MP_ET record, which has microseconds before it, and returns
+/// whether its message is treated as a withdrawal. `None` is a record that is skipped: its Address Family is neither IPv4 nor
+/// IPv6, or its subtype is another one than `STATE_CHANGE` (0), `MESSAGE` (1), `MESSAGE_AS4` (4), `STATE_CHANGE_AS4` (5),
+/// `MESSAGE_LOCAL` (6), `MESSAGE_AS4_LOCAL` (7) and the four with path identifiers (8 to 11, RFC 8050, section 3). If the record
+/// is refused, or memory runs out, some events may have been added.
 ///
 /// Messages of the LOCAL subtypes, which the recorder sent itself (RFC 6396, sections 4.4.5 and 4.4.6), are read as the others
 /// are: their routes count as routes of the peer that they name.
@@ -168,7 +168,7 @@ pub fn push_bgp4mp(
     push_session(events, rest, session, asn, family_of(afi))
 }
 
-/// The events of a BGP4MP record, and whether its message is treated as a withdrawal, as `push_bgp4mp` reads it; `None` where it is
+/// The events of a BGP4MP record, and whether its message is treated as a withdrawal, as `push_bgp4mp` reads it; `None` if it is
 /// skipped.
 pub fn read_bgp4mp(
     alloc: Global,

@@ -14,7 +14,7 @@ use bgp_attrs::{Refusal, Rule, next_nlri};
 use fib_prefix::{Addr, Event, Family, Peer, Prefix, Via};
 use std::alloc::AllocError;
 
-/// Adds the event of a prefix: Announce with this path length, origin and next hop, Withdraw where there is no next hop. It is
+/// Adds the event of a prefix: Announce with this path length, origin and next hop, Withdraw if there is no next hop. It is
 /// written once, where it stays.
 #[inline(always)]
 pub fn push_event(
@@ -42,7 +42,7 @@ pub fn push_event(
     }
 }
 
-/// What a peer says of all prefixes of a list: how long their path is, where they originate, and their next hop, or none where
+/// What a peer says of all prefixes of a list: how long their path is, where they originate, and their next hop, or none if
 /// they are withdrawn.
 #[derive(Clone, Copy, Debug)]
 pub struct Saying {
@@ -52,7 +52,7 @@ pub struct Saying {
     pub hop: Option<Addr>,
     /// The path's length.
     pub path: u32,
-    /// The AS in which the routes originate; None where the path doesn't tell it.
+    /// The AS in which the routes originate; None if the path doesn't give it.
     pub origin: Option<u32>,
 }
 
@@ -69,7 +69,7 @@ pub struct NlriArea<'a> {
     pub cut: Rule,
 }
 
-/// Adds an event for each entry of NLRI in the area, in their order. Where an entry is wrong or memory runs out, the events of those
+/// Adds an event for each entry of NLRI in the area, in their order. If an entry is wrong or memory runs out, the events of those
 /// before it were added.
 pub fn push_routes(
     events: &mut Vec<Event>,

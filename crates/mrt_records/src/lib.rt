@@ -1,7 +1,7 @@
 //! MRT records by their types: peer tables and RIB records of TABLE_DUMP_V2, and BGP4MP (RFC 6396, sections 4.3 and 4.4).
 //!
-//! `read_record` takes a record's type, subtype and body, behind the latest peer table, and puts its events into a list that is used
-//! again; records of other types and subtypes are skipped. `read_rib` and `read_bgp4mp` read bodies of one type.
+//! `read_record` takes a record's type, subtype and body, after the latest peer table, and puts its events into a list that is
+//! used again; records of other types and subtypes are skipped. `read_rib` and `read_bgp4mp` read bodies of one type.
 //!
 //! A body that can't be read gives the rule (`wire_model::Rule`) that its first wrong field breaks, and none of its events.
 //! Reading costs the body's octets; the memory is that of its events.

@@ -18,9 +18,9 @@ const HEADER: usize = 19;
 /// The type of an UPDATE.
 const UPDATE_TYPE: u8 = 2;
 
-/// Adds the events of one message of the peer, which fills the octets, none where it isn't an UPDATE; and tells whether it is treated as
-/// a withdrawal (RFC 7606). AS numbers in it have four octets where it is wide, and else two; its prefixes have path identifiers where
-/// `ids` says so. Where it is refused, or memory runs out, some may have been added.
+/// Adds the events of one message of the peer, which fills the octets, none if it isn't an UPDATE; and returns whether it is
+/// treated as a withdrawal (RFC 7606). AS numbers in it have four octets if it is wide, and else two; its prefixes have path
+/// identifiers if `ids` says so. If it is refused, or memory runs out, some may have been added.
 #[tactic(auto, using(crate::proofs::Adding::adds_none), unfolding(wire_model::specs::Update::message))]
 pub fn push_message(
     events: &mut Vec<Event>,

@@ -13,13 +13,13 @@ use fib_prefix::{Family, Peer};
 use octet_fields::{octet, octets, u16_at};
 use std::alloc::Global;
 
-/// Set in a Peer Type where the peer's address is IPv6: the bit I of RFC 6396, section 4.3.1.
+/// Set in a Peer Type if the peer's address is IPv6: the bit I of RFC 6396, section 4.3.1.
 const IS_IPV6: u8 = 0b01;
 
-/// Set in a Peer Type where the peer's AS has four octets: the bit A.
+/// Set in a Peer Type if the peer's AS has four octets: the bit A.
 const HAS_WIDE_AS: u8 = 0b10;
 
-/// The peer at the front, and what follows it.
+/// The peer that comes first, and what follows it.
 #[tactic(auto, unfolding(wire_model::specs::Rib::peer_at))]
 fn peer(bytes: &[u8]) -> Result<(Peer, &[u8]), Rule>
     ensures { Gives (λ x. (peer_as x.0, x.1.now)) result (peer_at bytes.now) }

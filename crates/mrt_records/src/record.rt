@@ -34,7 +34,7 @@ const RIB_IPV4_UNICAST_ADDPATH: u16 = 8;
 
 const RIB_IPV6_UNICAST_ADDPATH: u16 = 10;
 
-/// What a record told.
+/// What a record said.
 #[derive(Clone, Copy, Debug, PartialEq, Eq)]
 pub enum RecordTold {
     /// Nothing: it is skipped.
@@ -45,8 +45,8 @@ pub enum RecordTold {
     Treated,
 }
 
-/// Whether the entries of a RIB record of this type and subtype have path identifiers, and its family; `None` where it is no RIB record
-/// that is read.
+/// Whether the entries of a RIB record of this type and subtype have path identifiers, and its family; `None` if it is no RIB
+/// record that is read.
 fn rib_of(kind: u16, sub: u16) -> Option<(bool, Family)>
     ensures { (body : List ℕ) → result ≡ model.rib_of (record { kind = kind; subtype = sub; body = body }) }
 {
@@ -59,7 +59,7 @@ fn rib_of(kind: u16, sub: u16) -> Option<(bool, Family)>
     }
 }
 
-/// Adds the events of a RIB record behind this peer table.
+/// Adds the events of a RIB record after this peer table.
 fn push_rib_behind(
     events: &mut Vec<Event>,
     table: Option<&PeerTable>,
@@ -77,7 +77,7 @@ fn push_rib_behind(
     Ok(Some(false))
 }
 
-/// Adds the events of a record of a session, and tells whether its message is treated as a withdrawal; `None` where it is skipped.
+/// Adds the events of a record of a session, and returns whether its message is treated as a withdrawal; `None` if it is skipped.
 fn push_session_record(
     events: &mut Vec<Event>,
     kind: u16,
@@ -94,7 +94,7 @@ fn push_session_record(
     }
 }
 
-/// Adds the events of a record that is no peer table, and tells whether its message is treated as a withdrawal; `None` where it is
+/// Adds the events of a record that is no peer table, and returns whether its message is treated as a withdrawal; `None` if it is
 /// skipped.
 fn push_behind(
     events: &mut Vec<Event>,
@@ -112,7 +112,7 @@ fn push_behind(
     }
 }
 
-/// What the record told, whose events stand in `events`, which was empty.
+/// What the record said, whose events stand in `events`, which was empty.
 #[tactic(auto, unfolding(wire_model::specs::Input::record_in))]
 fn tell(
     alloc: Global,
@@ -141,15 +141,15 @@ fn tell(
     }
 }
 
-/// Reads the record of this type, subtype and body: its events take the place of what stood in `events`, and it answers what the record
-/// told. What is read are TABLE_DUMP_V2's peer tables and unicast RIB records, and the state changes and messages of BGP4MP and
-/// BGP4MP_ET, with path identifiers or without; all others are skipped.
+/// Reads the record of this type, subtype and body: its events take the place of what stood in `events`, and it returns what the
+/// record said. What is read are TABLE_DUMP_V2's peer tables and unicast RIB records, and the state changes and messages of
+/// BGP4MP and BGP4MP_ET, with path identifiers or without; all others are skipped.
 ///
-/// RIB records are read behind the latest peer table. A record that is one has no events, and takes its place.
+/// RIB records are read after the latest peer table. A record that is one has no events, and takes its place.
 ///
 /// # Errors
 ///
-/// The rule that the first wrong field breaks, or no memory; then the peer table is as it was, and `events` is empty.
+/// The rule that the first wrong field breaks, or out of memory; then the peer table is as it was, and `events` is empty.
 pub fn read_record(
     alloc: Global,
     events: &mut Vec<Event>,

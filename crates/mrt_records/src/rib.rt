@@ -29,7 +29,7 @@ fn hop_of_entry<'a>(family: Family, attrs: &RibAttrs<'a>) -> HopOctets<'a>
     }
 }
 
-/// Adds the event of the entry at the front, and gives what follows it.
+/// Adds the event of the first entry, and returns what follows it.
 #[tactic(auto, unfolding(wire_model::specs::Rib::rib_entry_at))]
 #[inline(always)]
 fn push_entry<'a>(
@@ -65,7 +65,7 @@ fn push_entry<'a>(
     Ok(rest)
 }
 
-/// Adds the events of so many entries, in their order, and gives what follows them.
+/// Adds the events of `count` entries, in their order, and returns what follows them.
 fn push_entries<'a>(
     events: &mut Vec<Event>,
     peers: &[Peer],
@@ -86,9 +86,9 @@ fn push_entries<'a>(
     Ok(rest)
 }
 
-/// Adds an event for each entry of a RIB_IPV4_UNICAST or RIB_IPV6_UNICAST record behind the peer table, in their order; with `ids` of a
-/// RIB_IPV4_UNICAST_ADDPATH or RIB_IPV6_UNICAST_ADDPATH record (RFC 8050, section 4), whose entries have path identifiers. Where the
-/// record is refused, or memory runs out, some may have been added.
+/// Adds an event for each entry of a RIB_IPV4_UNICAST or RIB_IPV6_UNICAST record after the peer table, in their order; with `ids`
+/// of a RIB_IPV4_UNICAST_ADDPATH or RIB_IPV6_UNICAST_ADDPATH record (RFC 8050, section 4), whose entries have path identifiers.
+/// If the record is refused, or memory runs out, some may have been added.
 #[tactic(auto, unfolding(wire_model::specs::Rib::rib))]
 pub fn push_rib(
     events: &mut Vec<Event>,

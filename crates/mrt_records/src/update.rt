@@ -11,7 +11,7 @@ use bgp_attrs::{Attrs, Place, Refusal, Rule, Unreach, read_attrs};
 use fib_prefix::{Event, Peer};
 use octet_fields::{octets, u16_at};
 
-/// Adds the events of MP_UNREACH_NLRI. It fails for want of memory alone, since the octets hold entries of NLRI.
+/// Adds the events of MP_UNREACH_NLRI. It fails only if memory runs out, since the octets hold entries of NLRI.
 fn push_unreached(
     events: &mut Vec<Event>,
     peer: Peer,
@@ -39,7 +39,7 @@ fn push_unreached(
     push_routes(events, area, saying)
 }
 
-/// Adds the events of MP_REACH_NLRI, withdrawals where the list is bad. It fails for want of memory alone, since the octets hold
+/// Adds the events of MP_REACH_NLRI, withdrawals if the list is bad. It fails only if memory runs out, since the octets hold
 /// entries of NLRI.
 fn push_reached(events: &mut Vec<Event>, peer: Peer, attrs: &Attrs<'_>) -> Result<(), Refusal>
     ensures ok { OnOk result (map event_as events.new.items ≡ map event_as events.old.items
@@ -64,8 +64,9 @@ fn push_reached(events: &mut Vec<Event>, peer: Peer, attrs: &Attrs<'_>) -> Resul
     push_routes(events, area, saying)
 }
 
-/// Adds the events of an UPDATE behind its header, in their order: withdrawn routes, MP_UNREACH_NLRI's, the NLRI's, and MP_REACH_NLRI's;
-/// and tells whether the message is treated as a withdrawal. Where it is refused, or memory runs out, some may have been added.
+/// Adds the events of an UPDATE after its header, in their order: withdrawn routes, MP_UNREACH_NLRI's, the NLRI's, and
+/// MP_REACH_NLRI's; and returns whether the message is treated as a withdrawal. If it is refused, or memory runs out, some may
+/// have been added.
 #[tactic(auto, unfolding(wire_model::specs::Update::update))]
 pub fn push_update(
     events: &mut Vec<Event>,

@@ -10,7 +10,7 @@ use Rattle.mrt_write.specs.declared.write.WriteError.TheVariants.{PeersFull, Pat
 abbrev pub no_memory : WriteError
 no_memory = NoMemory
 
--- The octets, if no more peers than a table holds have a candidate and no path is too long; else how many peers there are; else the first candidate whose path is; or there was no memory.
+-- The octets, if no more peers than a table holds have a candidate and no path is too long; else how many peers there are; else the first candidate whose path is; or memory ran out.
 abbrev pub WriterAnswers : {A : Type 0} → Candidates → Result (Vec ℕ A) WriteError → Type 0
 WriterAnswers held (Ok v) = (length (peers_with_candidates held) ≤ most_peers) × (long_one held ≡ None) × (v.items ≡ saved held)
 WriterAnswers held (Err (PeersFull n)) = (most_peers < length (peers_with_candidates held)) × (n ≡ length (peers_with_candidates held))

@@ -9,7 +9,7 @@ use Rattle.route_model.specs.Choice.{Place, PathAttrs, Candidates}
 use Rattle.wire_model.specs.Octets.{number_octets, prefix_octets, record_octets, repeated_path}
 use Rattle.mrt_write.specs.Entries.{table_peer, entry_octets}
 
--- the announcement of a candidate, with the origin that the written path tells
+-- the announcement of a candidate, with the origin that the written path gives
 abbrev pub announced : Place × PathAttrs → Event
 announced c = Announce c.0.via c.0.prefix c.1.path c.1.hop (repeated_path c.0.via.peer.asn c.1.path).origin
 

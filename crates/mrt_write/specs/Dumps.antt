@@ -43,7 +43,7 @@ pub record CanPut (w : DumpWriter) : Type 0 where
   pub sorted : IsStrictlySortedBy code_peer_cmp w.peers.items
   pub small : IfSome w.open (λ (o : Open). length o.entries.items ≤ 16777216)
 
--- the table of these peers is written, and nothing behind it
+-- the table of these peers is written, and nothing after it
 pub record IsTableWritten (peers : List code.Peer) (ids : Bool) (w : DumpWriter) : Type 0 where
   pub peers_are : w.peers.items ≡ peers
   pub ids_are : w.ids ≡ ids
@@ -60,7 +60,7 @@ pub record WritesDump (w : DumpWriter) (rest : Candidates) (whole : List ℕ) : 
 abbrev pub PutsCands : DumpWriter → List Cand → DumpWriter → Type 0
 PutsCands before cands now = (rest : Candidates) (whole : List ℕ) → WritesDump before (map cand_as cands ++ rest) whole → WritesDump now rest whole
 
--- ---- candidates behind candidates
+-- ---- candidates after candidates
 
 pub puts_none : (a : DumpWriter) → PutsCands a [] a
 puts_none a = λ rest whole w. w

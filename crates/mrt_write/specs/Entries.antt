@@ -20,7 +20,7 @@ table_peer q = peer_type q.addr.family ∷ (number_octets 4 0 ++ address_octets 
 
 -- ---- the attributes
 
--- so many sequences of 255 AS numbers, and one of the rest, if there is any
+-- full sequences of 255 AS numbers, and one of the rest, if there is any
 unfoldable pub path_octets : ℕ → ℕ → List ℕ
 path_octets asn n = flat_map (as_path_octets asn) (replicate (n / 255) 255) ++ (if n % 255 == 0 then [] else as_path_octets asn (n % 255))
 

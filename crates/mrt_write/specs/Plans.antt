@@ -26,7 +26,7 @@ pub record HasMet (plan : DumpPlan) : Type 0 where
   pub sorted : IsStrictlySortedBy code_peer_cmp plan.peers.keys
   pub among : AreAmong (map peer_as plan.peers.keys) plan.met
 
--- it knows of these candidates, behind all of which it knew
+-- it knows of these candidates, after all of which it knew
 abbrev pub Learns : DumpPlan → List Cand → DumpPlan → Type 0
 Learns before cands now = (old : List Cand) → PlansDump before old → PlansDump now (old ++ cands)
 
@@ -35,7 +35,7 @@ abbrev pub PlanAnswers : Candidates → Result DumpWriter WriteError → Type 0
 PlanAnswers held (Ok w) = (length (peers_with_candidates held) ≤ most_peers) × (long_one held ≡ None) × WritesDump w held (saved held)
 PlanAnswers held (Err error) = WriterAnswers {A = ℕ} held (Err error)
 
--- ---- candidates behind candidates
+-- ---- candidates after candidates
 
 pub learns_none : (a : DumpPlan) → Learns a [] a
 learns_none a = λ old k. subst (PlansDump a) (sym (append-nil old)) k

@@ -9,7 +9,7 @@ abbrev pub after_events : Candidates → List Event → Candidates
 after_events held events = after_elems held (elems_after held events)
 
 -- Read as a dump, these octets break no rule, none of them is skipped or treated as a withdrawal, and after their events the candidates are exactly these.
--- So, whatever is said later, the candidates are the same behind these octets as behind anything that led to these candidates.
+-- So, whatever is said later, the candidates are the same after these octets as after anything that led to these candidates.
 pub record ReadsAs (octets : List ℕ) (held : Candidates) : Type 0 where
   pub read : Progress
   pub accepted : input octets ≡ Ok read

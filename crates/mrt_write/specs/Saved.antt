@@ -25,7 +25,7 @@ with_candidate p c = record { prefix = p.prefix; candidates = p.candidates ++ c 
 unfoldable pub has_place : List Peer → Bool → Piece → Place × PathAttrs → Bool
 has_place peers ids p c = same_prefix p.prefix c.0.prefix && (nat_lt (length p.candidates) most_entries && not (nat_lt most_length (length (piece_body peers ids 0 (with_candidate p c)))))
 
--- the pieces of candidates behind those of an open piece: it takes those that fit, and is closed before the first that doesn't
+-- the pieces of candidates after those of an open piece: it takes those that fit, and is closed before the first that doesn't
 unfoldable pub pieces_from : List Peer → Bool → Piece → Candidates → List Piece
 pieces_from peers ids p [] = p ∷ []
 pieces_from peers ids p (c ∷ held) = if has_place peers ids p c then pieces_from peers ids (with_candidate p c) held else p ∷ pieces_from peers ids (piece_of c) held

@@ -14,7 +14,7 @@ use wire_model::{put_behind_length, put_sequence};
 /// A path below this is one sequence of less than 256 octets.
 pub const SHORT_PATH: u32 = 64;
 
-/// Puts so many sequences of 255, and one of the rest.
+/// Puts path / 255 sequences of 255, and one of the rest.
 fn put_path(asn: u32, path: u32, out: &mut Vec<u8>) -> Result<(), AllocError>
     ensures { OnOk result (out.new.items ≡ out.old.items ++ path_octets asn path) }
 {

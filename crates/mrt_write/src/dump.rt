@@ -87,7 +87,7 @@ impl DumpWriter {
     ///
     /// # Errors
     ///
-    /// No memory.
+    /// Out of memory.
     pub fn finish(self) -> Result<Vec<u8>, AllocError>
         requires { CanPut self }
         ensures { IfOk result (λ octets. (whole : List ℕ) → WritesDump self [] whole → octets.items ≡ whole) }

@@ -63,7 +63,7 @@ impl Scratch {
     }
 }
 
-/// Puts a candidate's attributes behind their length, which is known before if the path is short.
+/// Puts a candidate's attributes after their length, which is known before if the path is short.
 fn put_part(cand: &Cand, scratch: &mut Scratch, out: &mut Vec<u8>) -> Result<(), AllocError>
     requires { cand.now.path ≤ 15000 }
     ensures { OnOk result (out.new.items ≡ out.old.items ++ behind_length (attributes_of (cand_as cand.now))) }

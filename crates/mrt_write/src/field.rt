@@ -1,4 +1,4 @@
-//! Addresses and prefixes, put behind what was written before.
+//! Addresses and prefixes, put after what was written before.
 
 ghost use Rattle.std.specs.Prelude.{◌≡◌, ◌++◌, OnOk};
 ghost use Rattle.fib_addr.specs.Views.{addr_as, prefix_as};

@@ -34,7 +34,8 @@ pub struct Open {
     pub entries: Vec<u8>,
 }
 
-/// Whether a record of this prefix, with so many entries of so many octets, takes one more of the candidate, which has `more` octets.
+/// Whether a record of this prefix, with `count` entries of `octets` octets, takes one more of the candidate, which has `more`
+/// octets.
 fn has_room(prefix: &Prefix, count: u16, octets: usize, cand: &Cand, more: usize) -> bool
     requires few { octets + more < 2 ^ 60 }
     ensures room { result ≡ true → (count < 65535) × (octets + more ≤ 16777216) }

@@ -29,7 +29,7 @@ fn emit_list<S: CandSink>(cands: &[Cand], out: &mut S) -> Result<(), AllocError>
 ///
 /// # Errors
 ///
-/// More than 65,535 peers have a candidate; else the first candidate whose path is longer than 15,000; else no memory.
+/// More than 65,535 peers have a candidate; else the first candidate whose path is longer than 15,000; else out of memory.
 pub fn write_dump(alloc: Global, cands: &[Cand]) -> Result<Vec<u8>, WriteError>
     ensures written { WriterAnswers (map cand_as cands.now) result }
     ensures reads { AreCandidates (map cand_as cands.now)

@@ -9,8 +9,8 @@ ghost use Rattle.mrt_write.specs.Met.{AreAmong};
 use fib_prefix::Peer;
 use std::alloc::{AllocError, Global};
 
-/// At most 256 peers, each at a place that its address and its AS tell. A candidate's peer is nearly always there, since a dump has
-/// some tens of peers and each of them has candidates for most prefixes.
+/// At most 256 peers, each at a place that its address and its AS determine. A candidate's peer is nearly always there, since a
+/// dump has some tens of peers and each of them has candidates for most prefixes.
 #[derive(Drop)]
 pub struct Met {
     places: Vec<Peer>,
@@ -41,7 +41,7 @@ impl Met {
         at < self.places.len() && self.places[at].cmp(peer).is_eq()
     }
 
-    /// Puts a peer at its place, or behind the last one while there are no more places.
+    /// Puts a peer at its place, or after the last one if there are no more places.
     pub fn put(&mut self, peer: &Peer) -> Result<(), AllocError>
         ensures { OnOk result ((peers : List ModelPeer) → AreAmong peers self.old
             → list_any (same_peer (peer_as peer.now)) peers ≡ true → AreAmong peers self.new) }

@@ -64,11 +64,11 @@ impl DumpPlan {
         }
     }
 
-    /// Begins the checkpoint of the candidates that were taken, which are then to be handed to it once more.
+    /// Begins the checkpoint of the candidates that were taken, which are then to be passed to it once more.
     ///
     /// # Errors
     ///
-    /// More than 65,535 peers have a candidate; else the first candidate whose path is longer than 15,000; else no memory.
+    /// More than 65,535 peers have a candidate; else the first candidate whose path is longer than 15,000; else out of memory.
     pub fn begin(&self) -> Result<DumpWriter, WriteError>
         ensures ready { IfOk result CanPut }
         ensures answers { (cands : List CodeCand) → PlansDump self.now cands

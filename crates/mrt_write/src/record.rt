@@ -25,7 +25,7 @@ fn subtype_of(ids: bool, family: Family) -> u16
     }
 }
 
-/// Puts the record of a piece: of this prefix, with so many entries in these octets. There is `body` for its body.
+/// Puts the record of a piece: of this prefix, with `count` entries in these octets. There is `body` for its body.
 pub fn put_rib(
     number: u32,
     ids: bool,

@@ -12,7 +12,7 @@ ghost use Rattle.mrt_write.specs.Saved.{IsCode, long_one, most_peers, peers_with
 ghost use Rattle.mrt_write.specs.Examples.{none_octets, one_held, one_octets, three_held, three_octets};
 ghost use Rattle.mrt_write.specs.Writable.{AreWritable, all_of};
 
-/// A checkpoint is read as its candidates: a record for each piece behind the peer table, none of them skipped or treated as a
+/// A checkpoint is read as its candidates: a record for each piece after the peer table, none of them skipped or treated as a
 /// withdrawal, and an announcement for each candidate in order.
 pub fn reading_law()
     ensures { (peers : List Peer) (ids : Bool) (pieces : List Piece) → AreWritable peers ids pieces
@@ -45,7 +45,7 @@ pub fn candidates_law()
         → after_elems [] (elems_after [] (map announced held)) ≡ held }
 {}
 
-/// Whatever is said later, the candidates after it are the same behind the checkpoint as behind all that was said before.
+/// Whatever is said later, the candidates after it are the same after the checkpoint as after all that was said before.
 pub fn replay_law()
     ensures { (said later : List Event) → AreCandidates (after_elems [] (elems_after [] said)) →
         after_elems [] (elems_after [] (map announced (after_elems [] (elems_after [] said)) ++ later))

@@ -1,4 +1,4 @@
--- A field is read from the front of the octets: its value and the octets after it, or the fault of the place where it is cut.
+-- A field is read from the beginning of the octets: its value and the octets after it, or the fault of the place where it is cut.
 use Rattle.std.specs.Prelude.{ℕ, zero, suc, Bool, true, List, [], ◌∷◌, ◌++◌, length, take, drop, Result, Ok, Err, nat_lt, ◌==◌, if◌then◌else◌}
 use Rattle.table_model.specs.Bits.{number}
 
@@ -7,7 +7,7 @@ abbrev pub ◌>>=◌ : {A B F : Type 0} → Result A F → (A → Result B F) �
 (Ok x) >>= f = f x
 (Err e) >>= f = Err e
 
--- a fault where the test is true
+-- a fault if the test is true
 abbrev pub refuse : {F : Type 0} → F → Bool → Result Bool F
 refuse fault test = if test then Err fault else Ok true
 
@@ -16,15 +16,15 @@ abbrev pub octet_at : {F : Type 0} → F → List ℕ → Result (ℕ × List �
 octet_at fault [] = Err fault
 octet_at fault (b ∷ octets) = Ok (b, octets)
 
--- so many octets
+-- n octets
 abbrev pub octets_at : {F : Type 0} → F → ℕ → List ℕ → Result (List ℕ × List ℕ) F
 octets_at fault n octets = if nat_lt (length octets) n then Err fault else Ok (take n octets, drop n octets)
 
--- a number of so many octets, the highest first (RFC 6396, 2; RFC 4271, 4)
+-- a number of n octets, the highest first (RFC 6396, 2; RFC 4271, 4)
 abbrev pub number_at : {F : Type 0} → F → ℕ → List ℕ → Result (ℕ × List ℕ) F
 number_at fault n octets = if nat_lt (length octets) n then Err fault else Ok (number (take n octets), drop n octets)
 
--- a value, where no octet is left after it
+-- a value, if no octet is left after it
 abbrev pub all_read : {A F : Type 0} → F → A × List ℕ → Result A F
 all_read fault read = if length read.1 == 0 then Ok read.0 else Err fault
 
@@ -43,6 +43,6 @@ steps step n s [] = Ok s
 steps step zero s (b ∷ octets) = Ok s
 steps step (suc n) s (b ∷ octets) = step s (b ∷ octets) >>= λ x. steps step n x.0 x.1
 
--- steps until no octet is left, where each takes at least one octet
+-- steps until no octet is left; each takes at least one octet
 abbrev pub until_end : {S F : Type 0} → (S → List ℕ → Result (S × List ℕ) F) → S → List ℕ → Result S F
 until_end step s octets = steps step (length octets) s octets

@@ -1,8 +1,8 @@
-//! Fields at the front of octets: readers, each with its definition. A reader gives a value and what follows it, or the
-//! caller's fault where the field is cut.
+//! Readers of the field with which octets begin, each with its definition. A reader returns a value and what follows it, or the
+//! caller's fault if the field is cut.
 //!
 //! Numbers are big-endian, as MRT (RFC 6396, section 2) and BGP-4 (RFC 4271, section 4) have them, and `byteorder`
-//! reads them. The fault is handed in by the caller, which knows what a cut means at its place; so the order of the
+//! reads them. The fault is passed by the caller, which knows what a cut means at its place; so the order of the
 //! fields is the order of the faults. Each call costs its field alone and takes no memory.
 #![tactic(auto)]
 

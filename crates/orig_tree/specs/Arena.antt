@@ -31,7 +31,7 @@ blank_cell = record { low = 0; high = 0; route = bare_slot; entry = bare_slot }
 abbrev pub cell_at : List Node → ℕ → Node
 cell_at cells i = slice_index_or cells i blank_cell
 
--- the place that a node tells of a half; 0 tells none
+-- the place that a node has for a half; 0 is none
 abbrev pub link : ℕ → Option ℕ
 link zero = None
 link (suc j) = Some (suc j)
@@ -45,7 +45,7 @@ abbrev pub from_half : (ℕ → Walks) → Option ℕ → Walks
 from_half f None = no_walks
 from_half f (Some j) = f j
 
--- a node's tables, where f tells what places stand for
+-- a node's tables, if f says what places stand for
 abbrev pub walks_by : (ℕ → Walks) → Node → Walks
 walks_by f n = walks_of n.route.hop n.entry.hop (from_half f (half_place n false)) (from_half f (half_place n true))
 
@@ -56,7 +56,7 @@ walks_at (suc d) cells i = walks_by (walks_at d cells) (cell_at cells i)
 
 -- ---- writing
 
--- whose a place is: the node's at a path, or a spare one, with so many spare ones behind it
+-- whose a place is: the node's at a path, or a spare one, with n spare ones after it
 pub data Owner : Type 0 where
   At : List Bool → Owner
   Spare : ℕ → Owner

@@ -36,19 +36,19 @@ bests_of n = map (λ (p : Place). p.best) (n.root ∷ n.halves.items)
 abbrev pub best_in : Nodes → ℕ → Best
 best_in n i = slice_index_or (bests_of n) i (best_one 0)
 
--- the node at place i, of at most d levels, and each node below it keep what stands for their regions, where f tells the
+-- the node at place i, of at most d levels, and each node below it keep what stands for their regions, if f says the
 -- answers of the region of place i
 unfoldable pub AreBest : ℕ → List Node → (ℕ → Best) → (List Bool → ℕ) → ℕ → Type 0
 AreBest zero cells kept f i = Unit {0}
 AreBest (suc d) cells kept f i =
     IsRegionBest d f (kept i) × ((b : Bool) → IfHalf (λ j. AreBest d cells kept (side b f) j) (half_place (cell_at cells i) b))
 
--- what a half keeps; where it is no node, x
+-- what a half keeps; if it is no node, x
 abbrev pub best_behind : (ℕ → Best) → Option ℕ → Best → Best
 best_behind kept None x = x
 best_behind kept (Some j) x = kept j
 
--- what a region is to keep, or where that isn't told, what it keeps
+-- what a region is to keep, or, if that isn't given, what it keeps
 abbrev pub kept_or : Option Best → Best → Best
 kept_or None y = y
 kept_or (Some x) y = x
@@ -68,7 +68,7 @@ abbrev pub back : List Change → (ℕ → Best) → ℕ → Best
 back [] kept = kept
 back (c ∷ cs) kept = put_at (back cs kept) c.place c.best
 
--- the answers in a region with the routes R, where the region's own hop is h
+-- the answers in a region with the routes R, if the region's own hop is h
 abbrev pub under : ℕ → Table → List Bool → ℕ
 under h R [] = h
 under h R (b ∷ a) = lpm (half b R) a h
@@ -87,7 +87,7 @@ pub record IsMended (d : ℕ) (cells : List Node) (name : ℕ → Owner) (i : �
   pub best : AreBest (suc d) cells new f i
   pub keeps : UntouchedElse p name old new
 
--- the same of a half, where it is a node or not
+-- the same of a half, whether it is a node or not
 pub record HalfMended (d : ℕ) (cells : List Node) (name : ℕ → Owner) (half : Option ℕ) (p : List Bool) (f : List Bool → ℕ) (old new : ℕ → Best) (x : Best) : Type 0 where
   pub stands : IsRegionBest d f x
   pub best : IfHalf (λ j. AreBest (suc d) cells new f j) half
@@ -98,7 +98,7 @@ abbrev pub laid : Option ℕ → List Bool → Table → Table
 laid None q R = R
 laid (Some g) q R = put q g R
 
--- the places after room was made: each node keeps what stands for its region, where f tells the answers of place i's
+-- the places after room was made: each node keeps what stands for its region, if f says the answers of place i's
 pub record IsGrown (d : ℕ) (new : List Node) (name : ℕ → Owner) (i : ℕ) (p : List Bool) (f : List Bool → ℕ) (old kept : ℕ → Best) : Type 0 where
   pub best : AreBest d new kept f i
   pub keeps : UntouchedElse p name old kept

@@ -21,15 +21,15 @@ pub record OnlyFills (i : ℕ) (old new : List Node) (name name' : ℕ → Owner
   pub long : length old ≤ length new
   pub same : (j : ℕ) (q : List Bool) → name j ≡ At q → j ≢ i → (cell_at new j ≡ cell_at old j) × (name' j ≡ At q) × (kept' j ≡ kept j)
 
--- a node with halves at these places, 0 where one is no node, and no labels yet
+-- a node with halves at these places, 0 if one is no node, and no labels yet
 abbrev pub with_halves : ℕ → ℕ → Node
 with_halves low high = record { low = low; high = high; route = bare_slot; entry = bare_slot }
 
--- the answers of the routes T, each set in its turn, where h is inherited
+-- the answers of the routes T, each set in its turn, if h is inherited
 abbrev pub answers_of : Table → ℕ → List Bool → ℕ
 answers_of T h a = lpm (with_rows T []) a h
 
--- The array after the region of path p, of d more bits, was built from the routes T, told from there, where it inherits h: place i, which
+-- The array after the region of path p, of d more bits, was built from the routes T, as seen from there, if it inherits h: place i, which
 -- was its node's, stands for them, with the places below it, and each of these nodes keeps what stands for its region.
 pub record IsBuilt (d : ℕ) (T : Table) (old new : List Node) (free : ℕ) (name : ℕ → Owner) (i : ℕ) (p : List Bool) (h : ℕ) (kept kept' : ℕ → Best) : Type 0 where
   pub name' : ℕ → Owner
@@ -53,7 +53,7 @@ pub record HalfBuilt (d : ℕ) (T : Table) (old new : List Node) (free : ℕ) (n
   pub stands : IsRegionBest d (answers_of T h) (best_behind kept' half (best_one h))
   pub best : IfHalf (λ j. AreBest (suc d) new kept' (answers_of T h) j) half
 
--- a front of the routes was taken, and the region of the prefix p, with so many levels below it, was built from it, with its node at
+-- the first n routes were taken, and the region of the prefix p, with `levels` levels below it, was built from them, with its node at
 -- place i; the rest is left
 pub record Builds (h levels : ℕ) (p : Prefix) (i : ℕ) (old new : List Node) (free free' : ℕ) (kept kept' : ℕ → Best) (routes rest : Entries) : Type 0 where
   pub taken : Table

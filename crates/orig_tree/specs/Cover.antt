@@ -1,4 +1,4 @@
--- What a region's addresses get from the entries there, told to whoever knows what the region inherits.
+-- What a region's addresses get from the entries there, for whoever knows what the region inherits.
 use Rattle.std.specs.Prelude.{◌≡◌, ◌≢◌, ℕ, List, length, Bool, true, false, ◌||◌, ◌&&◌, not, cond, nat_eq, Option, Some, None}
 use Rattle.table_model.specs.Table.{Table, lpm}
 use Rattle.orig_tree.specs.Views.{FitsWidth}
@@ -26,13 +26,13 @@ Within c (Some g) = Allows c.hops g
 abbrev pub SomeGets : ℕ → Table → Option ℕ → Type 0
 SomeGets n L x = (a : List Bool) × (length a ≡ n) × ShowsHop L a x
 
--- the hop is reached, and two different ones where there are many
+-- the hop is reached, and two different ones if there are many
 abbrev pub ReachedBy : (ℕ → Type 0) → Hops → Type 0
 ReachedBy r Zero = Unit {0}
 ReachedBy r (One x) = r x
 ReachedBy r Many = (g : ℕ) × (k : ℕ) × (g ≢ k) × r g × r k
 
--- The cover tells what addresses get, however many bits they have, as long as no prefix has more: each gets what the
+-- The cover says what addresses get, however many bits they have, as long as no prefix has more: each gets what the
 -- cover allows for, and what the cover names some address gets.
 pub record IsCover (L : Table) (c : Cover) : Type 0 where
   pub each : (n : ℕ) → FitsWidth n L → (a : List Bool) → length a ≡ n → (x : Option ℕ) × ShowsHop L a x × Within c x

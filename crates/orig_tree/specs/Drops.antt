@@ -13,16 +13,16 @@ use Rattle.orig_tree.specs.declared.best.Best.{Best}
 abbrev pub with_halves : Node → Bool → Bool → Node
 with_halves n low high = record { low = cond low n.low 0; high = cond high n.high 0; route = n.route; entry = n.entry }
 
--- a spare place tells the next one
+-- a spare place links to the next one
 abbrev pub spare_node : ℕ → Node
 spare_node next = record { low = next; high = 0; route = bare_slot; entry = bare_slot }
 
--- a half, where it stays
+-- a half, if it stays
 abbrev pub what_stays : Bool → Option ℕ → Option ℕ
 what_stays true half = half
 what_stays false half = None
 
--- a half in order after nodes below it went, and its own where it doesn't stay; what the nodes that stay keep stands as before
+-- a half in order after nodes below it went, and its own if it doesn't stay; what the nodes that stay keep stands as before
 pub record HalfKept (d : ℕ) (old new : List Node) (free : ℕ) (name : ℕ → Owner) (half : Option ℕ) (p : List Bool) (stays : Bool) : Type 0 where
   pub name' : ℕ → Owner
   pub spares : ℕ

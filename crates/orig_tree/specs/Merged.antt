@@ -36,8 +36,8 @@ abbrev pub starts_within : Prefix → Entries → Bool
 starts_within p [] = false
 starts_within p (e ∷ E) = is_within e.0 p
 
--- The array after a label of the entries T was set from place i on, their prefixes told from there. Where it is the entries' label,
--- the nodes keep what stands for their regions, h being inherited from the routes: for those it is told when all are set.
+-- The array after a label of the entries T was set from place i on, their prefixes as seen from there. If it is the entries' label,
+-- the nodes keep what stands for their regions, h being inherited from the routes: for those it is computed when all are set.
 pub record IsMerged (d : ℕ) (label : Label) (T : Table) (old new : List Node) (free : ℕ) (name : ℕ → Owner) (i : ℕ) (p : List Bool) (h : ℕ) (kept kept' : ℕ → Best) : Type 0 where
   pub name' : ℕ → Owner
   pub spares : ℕ
@@ -53,7 +53,7 @@ pub record IsHalfMade (d : ℕ) (b : Bool) (old new : List Node) (free : ℕ) (n
   pub merged : (label : Label) → IsMerged d label [] old new free name i p h kept kept'
   pub half : half_place (cell_at new i) b ≡ Some j
 
--- a front of the entries was set from place i on, which stands for the prefix p with so many levels below it; the rest is left
+-- the first n entries were set from place i on, which stands for the prefix p with `levels` levels below it; the rest is left
 pub record Merges (label : Label) (h levels : ℕ) (p : Prefix) (old new : List Node) (free free' : ℕ) (kept kept' : ℕ → Best) (i : ℕ) (entries rest : Entries) : Type 0 where
   pub taken : Table
   pub front : entries ≡ of_table p.family (lift p.bits taken) ++ rest
@@ -61,7 +61,7 @@ pub record Merges (label : Label) (h levels : ℕ) (p : Prefix) (old new : List 
 
 -- ---- the whole tree
 
--- The array after a label of those of a front of the entries that are of the family was set, each in its turn; the rest is left. Where
+-- The array after a label of those of the first n entries that are of the family was set, each in its turn; the rest is left. If
 -- it is the entries' label, the nodes keep what stands for their regions.
 pub record Lays (f : Family) (label : Label) (old new : List Node) (free : ℕ) (kept kept' : ℕ → Best) (entries rest : Entries) : Type 0 where
   pub arena : IsArena f new free

@@ -1,4 +1,4 @@
--- A label that is set at a path, where nodes are made down to it.
+-- A label that is set at a path, with nodes made down to it.
 use Rattle.std.specs.Prelude.{◌≡◌, ℕ, List, Bool, true, false, Option, Some, None, slice_set}
 use Rattle.orig_tree.specs.Walk.{labelled}
 use Rattle.orig_tree.specs.Arena.{Owner, cell_at, half_place, IsTree, IsSet, MakesRoom, HalvesStay, cover_at, cover_of, retold}
@@ -13,16 +13,16 @@ abbrev pub route_set : Label → ℕ → Option ℕ
 route_set Route h = Some h
 route_set Entry h = None
 
--- a node with its own labels, its cover told from those of the halves
+-- a node with its own labels, its cover computed from those of the halves
 abbrev pub told_again : Label → List Node → Node → Node
 told_again label cells n = retold label (labelled label n.route.hop n.entry.hop) (cover_at cells label (half_place n false)) (cover_at cells label (half_place n true)) n
 
--- the node at place i tells its cover again, where that of a half has changed; more: whether its own has changed
+-- the node at place i computes its cover again, if that of a half has changed; more: whether its own has changed
 abbrev pub Climbs : Label → Bool → Bool → List Node → List Node → ℕ → Type 0
 Climbs label false more old new i = (new ≡ old) × (more ≡ false)
 Climbs label true more old new i = (new ≡ slice_set old i (told_again label old (cell_at old i))) × (more ≡ false → cover_of label (told_again label old (cell_at old i)) ≡ cover_of label (cell_at old i))
 
--- the array after the path q from place i on got nodes, and a label's hop was set there, with what the new nodes keep, where f tells
+-- the array after the path q from place i on got nodes, and a label's hop was set there, with what the new nodes keep, if f says
 -- the answers of place i's region; more: whether the cover at place i has changed
 pub record IsPlaced (d : ℕ) (label : Label) (q : List Bool) (hop : ℕ) (old new : List Node) (free : ℕ) (name : ℕ → Owner) (i : ℕ) (p : List Bool) (f : List Bool → ℕ) (kept kept' : ℕ → Best) (more : Bool) : Type 0 where
   -- the array between the two: with the nodes, without the hop

@@ -8,8 +8,8 @@ use Rattle.orig_tree.specs.declared.best.Best.{Best}
 use Rattle.orig_tree.specs.declared.node.Label.{Label}
 use Rattle.orig_tree.specs.declared.node.Label.TheVariants.{Route, Entry}
 
--- A region of so many bits: the routes, the entries and the nodes within it, all told from the region, and the hop that its
--- addresses get from the routes above where none within it has them.
+-- A region of n bits: the routes, the entries and the nodes within it, all as seen from the region, and the hop that its
+-- addresses get from the routes above if none within it has them.
 pub record Spot : Type 0 where
   pub bits : ℕ
   pub routes : Table

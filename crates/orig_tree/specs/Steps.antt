@@ -3,7 +3,7 @@ use Rattle.std.specs.Prelude.{ℕ, suc, List, [], ◌∷◌, length, Bool, Optio
 use Rattle.orig_tree.specs.Arena.{cell_at, half_place}
 use Rattle.orig_tree.specs.declared.node.Node.{Node}
 
--- how many nodes are made, or would be, for the path q to be a node, where f tells how many below a place
+-- how many nodes are made, or would be, for the path q to be a node, if f says how many there are below a place
 abbrev pub new_from : (ℕ → ℕ) → List Bool → Option ℕ → ℕ
 new_from f q None = suc (length q)
 new_from f q (Some j) = f j

@@ -17,7 +17,7 @@ is_used p routes entries = has_within p routes || has_within p entries
 abbrev pub HasBeside : List Bool → List Bool → List (List Bool) → Type 0
 HasBeside p q nodes = (r : List Bool) × (begins q r ≡ true) × (begins r p ≡ false) × (begins p r ≡ false) × (has_node r nodes ≡ true)
 
--- What keeps a node at q where p is trimmed: a route or an entry at it or within it, or a node there that is neither on the way to
+-- What keeps a node at q if p is trimmed: a route or an entry at it or within it, or a node there that is neither on the way to
 -- p nor within p.
 abbrev pub NodeIsKept : List Bool → Table → Table → List (List Bool) → List Bool → Type 0
 NodeIsKept p routes entries nodes q = (is_used q routes entries ≡ true) ⊎ HasBeside p q nodes
@@ -31,7 +31,7 @@ AreTrimmed p routes entries old new =
 abbrev pub IsTrimmed : List Bool → Walks → Walks → Type 0
 IsTrimmed p old new = AreTrimmed p new.routes new.entries old.nodes new.nodes
 
--- the same of what is seen behind a link, where the root goes as any other node does
+-- the same of what is seen behind a link, and the root goes as any other node does
 abbrev pub IsPruned : List Bool → Walks → Walks → Type 0
 IsPruned p old new = (q : List Bool) → (has_node q new.nodes ≡ true) ↔ ((has_node q old.nodes ≡ true) × NodeIsKept p new.routes new.entries old.nodes q)
 

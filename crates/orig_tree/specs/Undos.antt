@@ -18,7 +18,7 @@ use Rattle.orig_tree.specs.declared.undo.Undo.{Undo}
 abbrev pub undone : Undo → Table → Table
 undone u R = edit (bits_of u.len u.q) u.hop R
 
--- the routes before the last change, where it can be taken back
+-- the routes before the last change, if it can be taken back
 abbrev pub routes_before : Option Undo → Table → Table
 routes_before None R = R
 routes_before (Some u) R = undone u R

@@ -7,13 +7,13 @@ use Rattle.orig_tree.specs.Edits.{edit}
 use Rattle.orig_tree.specs.declared.node.Label.{Label}
 use Rattle.orig_tree.specs.declared.node.Label.TheVariants.{Route, Entry}
 
--- the routes and the entries, their prefixes told from the node, and the paths of the nodes from there
+-- the routes and the entries, their prefixes as seen from the node, and the paths of the nodes from there
 pub record Walks : Type 0 where
   pub routes : Table
   pub entries : Table
   pub nodes : List (List Bool)
 
--- what is seen where there is no node
+-- what is seen if there is no node
 abbrev pub no_walks : Walks
 no_walks = record { routes = []; entries = []; nodes = [] }
 

@@ -7,6 +7,6 @@ use Rattle.table_model.specs.Bits.{begins}
 abbrev pub nodes_in : List Bool → List (List Bool) → ℕ
 nodes_in p nodes = length (filter (λ q. begins p q) nodes)
 
--- a number as it is told: 2^64 - 1 stands for all that are greater
+-- a number as it is reported: 2^64 - 1 stands for all that are greater
 abbrev pub told : ℕ → ℕ
 told n = min n (2 ^ 64 - 1)

@@ -29,14 +29,14 @@ pub(crate) struct Change {
     pub(crate) best: Best,
 }
 
-/// The sum, or no memory where it passes 64 bits. No cost does: it is below the number of the region's addresses.
+/// The sum, or out of memory if it passes 64 bits. No cost does: it is below the number of the region's addresses.
 fn sum(a: u64, b: u64) -> Result<u64, AllocError>
     ensures { IfOk result (λ n. n ≡ a + b) }
 {
     a.checked_add(b).ok_or(AllocError)
 }
 
-/// The cost of two halves, which is one more where no hop is best for both.
+/// The cost of two halves, which is one more if no hop is best for both.
 fn joint_k(low: u64, high: u64, apart: bool) -> Result<u64, AllocError>
     ensures { IfOk result (λ k. k ≡ low + high + cond apart 1 0) }
 {
@@ -99,7 +99,7 @@ pub(crate) fn fresh(left: u8, inherited: u16, set: Option<u16>) -> Best
     }
 }
 
-/// The same, where the route is given and has another hop.
+/// The same, if the route is given and has another hop.
 fn beside(left: u8, inherited: u16, hop: u16) -> Best
     requires { hop ≢ inherited }
     ensures { (d q : ℕ) → left ≤ d → IsRegionBest d (λ a. lpm (put (bits_of left q) hop []) a inherited)
@@ -116,7 +116,7 @@ fn beside(left: u8, inherited: u16, hop: u16) -> Best
     Best { hops, k: 1 }
 }
 
-/// What a half keeps; where it is no node, what a region keeps whose addresses all get the hop.
+/// What a half keeps; if it is no node, what a region keeps whose addresses all get the hop.
 pub(crate) fn half_keeps<'a>(
     nodes: &'a Nodes,
     half: Option<usize>,
@@ -152,7 +152,7 @@ pub(crate) fn join_kept(
     Best::joined(alloc, low, high)
 }
 
-/// No changes yet, with room for those on a way of so many bits. The list's own room is used again.
+/// No changes yet, with room for those on a way of `depth` bits. The list's own room is used again.
 pub(crate) fn no_changes(mut spare: Vec<Change>, depth: u8) -> Result<Vec<Change>, AllocError>
     ensures { IfOk result (λ v. v.items ≡ []) }
 {
@@ -177,7 +177,7 @@ pub(crate) fn commit(nodes: &mut Nodes, changes: &mut Vec<Change>)
     }
 }
 
-/// Takes changes back, the last first, and hands back the room that they took. It takes no memory.
+/// Takes changes back, the last first, and returns the room that they took. It takes no memory.
 pub(crate) fn revert(nodes: &mut Nodes, mut changes: Vec<Change>) -> Vec<Change>
     ensures kept { (j : ℕ) → j ≤ vec_len nodes.old.halves
         → best_in nodes.new j ≡ back changes.items (best_in nodes.old) j }

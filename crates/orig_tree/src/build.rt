@@ -25,7 +25,7 @@ use crate::source::EntrySource;
 use fib_addr::{Family, Prefix};
 use std::alloc::{AllocError, Global};
 
-/// Takes the first route, where that is at the prefix, and tells its hop.
+/// Takes the first route, if that is at the prefix, and returns its hop.
 fn take_own<S: EntrySource>(at: &Prefix, routes: &mut S) -> Option<u16>
     ensures { S.left routes.old ≡ of_table (prefix_as at.now).family (lift (prefix_as
         at.now).bits (here result)) ++ S.left routes.new }
@@ -39,11 +39,11 @@ fn take_own<S: EntrySource>(at: &Prefix, routes: &mut S) -> Option<u16>
     }
 }
 
-/// Takes a place behind all others for a node that is yet to be built, and tells it.
+/// Takes a place after all others for a node that is yet to be built, and returns it.
 ///
 /// # Errors
 ///
-/// No memory, which comes too where there would be 2^31 nodes or more.
+/// Out of memory, also if there would be 2^31 nodes or more.
 fn take_place(nodes: &mut Nodes) -> Result<u32, AllocError>
     ensures free { nodes.new.free ≡ nodes.old.free }
     ensures place { IfOk result (λ j. j ≡ length (cells_of nodes.old)) }
@@ -72,7 +72,7 @@ fn put_alone(nodes: &mut Nodes, place: usize, own: Option<u16>, hop: u16)
 }
 
 /// Puts the node of a region with its own route, or with none, at its place, from its halves, which were built and whose places are
-/// given, or 0 where one is no node.
+/// given, or 0 if one is no node.
 fn put_over(
     alloc: Global,
     nodes: &mut Nodes,
@@ -110,7 +110,7 @@ fn put_over(
 ///
 /// # Errors
 ///
-/// No memory, which comes too where there would be 2^31 nodes or more.
+/// Out of memory, also if there would be 2^31 nodes or more.
 #[cycle(build)]
 fn build<S: EntrySource>(
     alloc: Global,
@@ -155,8 +155,8 @@ fn build<S: EntrySource>(
     }
 }
 
-/// The same of a half of the region, which becomes a node, whose place it tells: it takes that before those below it, so that the
-/// nodes lie as the walks meet them.
+/// The same of a half of the region, which becomes a node, whose place it returns: it takes that before those below it, so that
+/// the nodes lie as the walks meet them.
 #[cycle(build)]
 fn build_half<S: EntrySource>(
     alloc: Global,
@@ -179,11 +179,11 @@ fn build_half<S: EntrySource>(
     Ok(place)
 }
 
-/// Builds a family's tree from a front of the routes, where there is the root alone, and takes these: the others are left.
+/// Builds a family's tree from the first n routes, if there is the root alone, and takes these: the others are left.
 ///
 /// # Errors
 ///
-/// No memory, which comes too where there would be 2^31 nodes or more.
+/// Out of memory, also if there would be 2^31 nodes or more.
 pub(crate) fn build_all<S: EntrySource>(
     alloc: Global,
     family: Family,

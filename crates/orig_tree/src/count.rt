@@ -22,7 +22,7 @@ fn count(nodes: &Nodes, i: usize, depth: u8) -> u64
     low.saturating_add(high).saturating_add(1)
 }
 
-/// The same from a half on, where it is a node or not.
+/// The same from a half on, whether it is a node or not.
 #[cycle(count)]
 fn count_half(nodes: &Nodes, half: Option<usize>, depth: u8) -> u64
     ensures { result ≡ told (length (from_half (walks_at (suc depth) (cells_of nodes.now))

@@ -5,12 +5,12 @@ ghost use Rattle.std.specs.Prelude.{◌≡◌, ◌+◌, ◌≤◌, ℕ};
 use fib_addr::Steps;
 use std::sync::ledger::Ledger;
 
-/// What a call is handed that says what it costs: `Steps` counts its steps, `Uncounted` doesn't.
+/// What a call is given that says what it costs: `Steps` counts its steps, `Uncounted` doesn't.
 pub trait Counter {
     /// How many steps were counted.
     ghost count: { Self → ℕ };
 
-    /// One step more, where steps are counted.
+    /// One step more, if steps are counted.
     fn tick(&mut self)
         ensures { count self.new ≤ count self.old + 1 };
 }

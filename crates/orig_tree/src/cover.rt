@@ -1,6 +1,6 @@
 //! What all addresses of a region get, kept beside each label of a node: a question about them all costs no walk below it.
 //!
-//! A cover tells it without knowing what the region inherits, so a change above a region leaves its cover.
+//! A cover says it without knowing what the region inherits, so a change above a region leaves its cover.
 
 /// The hops that addresses of a region get from entries of the region.
 #[derive(Clone, Copy)]
@@ -126,7 +126,7 @@ impl Cover {
         }
     }
 
-    /// The one hop of all the region's addresses, where it inherits this one.
+    /// The one hop of all the region's addresses, if it inherits this one.
     pub(crate) fn only(self, inherited: u16) -> Option<u16>
         ensures { result ≡ only_of self inherited }
     {

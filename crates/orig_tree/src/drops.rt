@@ -17,7 +17,7 @@ fn has_label(node: Node) -> bool
     node.route.hop.is_some() || node.entry.hop.is_some()
 }
 
-/// The place of a half, where it stays.
+/// The place of a half, if it stays.
 fn if_stays(half: u32, stays: bool) -> u32
     ensures { result ≡ cond stays half 0 }
 {
@@ -35,7 +35,7 @@ fn keep_halves(node: Node, low: bool, high: bool) -> Node
     }
 }
 
-/// A spare place, which tells the next one.
+/// A spare place, which links to the next one.
 fn spare(next: u32) -> Node
     ensures { result ≡ spare_node next }
 {
@@ -58,7 +58,7 @@ fn give(nodes: &mut Nodes, place: u32)
     nodes.free = place;
 }
 
-/// Tells a node which of its halves stay. One that is no node is none whatever is said.
+/// Sets which of its halves a node keeps. One that is no node is none whatever is said.
 fn settle(nodes: &mut Nodes, i: usize, node: Node, low: bool, high: bool)
     ensures cells { cells_of nodes.new
         ≡ slice_set (cells_of nodes.old) i (with_halves node low high) }
@@ -76,7 +76,7 @@ fn any(low: bool, high: bool, own: bool) -> bool
     low || high || own
 }
 
-/// Drops the nodes below a node that have no label at or below them, and tells whether it has one at or below itself. It
+/// Drops the nodes below a node that have no label at or below them, and returns whether it has one at or below itself. It
 /// changes no table.
 #[cycle(prune)]
 fn prune(nodes: &mut Nodes, i: usize, depth: u8) -> bool
@@ -94,7 +94,7 @@ fn prune(nodes: &mut Nodes, i: usize, depth: u8) -> bool
     any(low, high, has_label(node))
 }
 
-/// The same of a half, where it is a node; its own is given back where it has no label at or below itself.
+/// The same of a half, if it is a node; its own is given back if it has no label at or below itself.
 #[cycle(prune)]
 fn prune_half(nodes: &mut Nodes, half: u32, depth: u8) -> bool
     ensures trimmed { (d : ℕ) (name : ℕ → Owner) (spares : ℕ) (p : List Bool) → d ≤ depth
@@ -119,7 +119,7 @@ fn prune_half(nodes: &mut Nodes, half: u32, depth: u8) -> bool
 }
 
 /// Drops the nodes of a path and below it that have no label at or below them, and those on the way to it that then have
-/// none and nothing below them, but not the node itself; and tells whether the node has something left. It changes no table.
+/// none and nothing below them, but not the node itself; and returns whether the node has something left. It changes no table.
 #[cycle(trim)]
 pub(crate) fn trim(nodes: &mut Nodes, i: usize, q: u128, left: u8, depth: u8) -> bool
     requires { left ≤ 128 }
@@ -145,7 +145,7 @@ pub(crate) fn trim(nodes: &mut Nodes, i: usize, q: u128, left: u8, depth: u8) ->
     any(low, node.half(true).is_some(), has_label(node))
 }
 
-/// The same of a half, where it is a node; its own is given back where it has nothing left.
+/// The same of a half, if it is a node; its own is given back if it has nothing left.
 #[cycle(trim)]
 fn trim_half(nodes: &mut Nodes, half: u32, q: u128, left: u8, depth: u8) -> bool
     requires { left ≤ 128 }

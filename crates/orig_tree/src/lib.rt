@@ -1,12 +1,12 @@
 //! The routes and the table's entries of one family, in a binary tree: each node is a prefix, with the hop of its route and
 //! of its entry.
 //!
-//! A look-up, a change, the making of room and the question whether a whole prefix gets one hop walk down the prefix's bits,
-//! 129 nodes at most, the root among them; many routes or entries are set in one walk, where they stand in the order of
+//! A lookup, a change, the making of room and the question whether a whole prefix gets one hop walk down the prefix's bits,
+//! 129 nodes at most, the root among them; many routes or entries are set in one walk, if they stand in the order of
 //! prefixes. Contracts see two lists of entries in the order of prefixes. All nodes of a tree lie in one array, each at a place
-//! of its own, which its parent tells; the place of one that is dropped is taken again.
+//! of its own, which its parent links to; the place of one that is dropped is taken again.
 //! Beside each node lies what it keeps of its region: the hops that are best there, and what the region costs under one of them.
-//! That is mended where a route changes, on the way to its prefix and within it, and can be put back. A place takes 48 octets,
+//! That is mended when a route changes, on the way to its prefix and within it, and can be put back. A place takes 48 octets,
 //! 24 of them the node's, so that a walk that asks for both reads them off one line of memory, or two.
 #![tactic(auto)]
 

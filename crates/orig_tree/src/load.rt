@@ -1,5 +1,5 @@
-//! Many routes or entries set at once. Routes that stand in order are built in one walk; where others are set after them, what the
-//! nodes keep is told anew when all are set, from the least regions on.
+//! Many routes or entries set at once. Routes that stand in order are built in one walk; if others are set after them, what the
+//! nodes keep is computed anew when all are set, from the least regions on.
 
 ghost use Rattle.std.specs.Prelude.{◌≡◌, ◌≤◌, ◌+◌, ◌∷◌, [], ℕ, suc, List, Bool, true, false, OnOk, OnErr, IfOk, vec_len, map, filter, None};
 ghost use Rattle.std.specs.List.{AllByRecursion};
@@ -78,7 +78,7 @@ fn insert_one(
 ///
 /// # Errors
 ///
-/// No memory, which comes too where there would be 2^31 nodes or more; then a front of the entries may be set.
+/// Out of memory, also if there would be 2^31 nodes or more; then the first n entries may be set, for some n.
 pub(crate) fn insert_all(
     family: Family,
     nodes: &mut Nodes,
@@ -100,7 +100,7 @@ pub(crate) fn insert_all(
     Ok(())
 }
 
-/// Tells what the nodes from a node on keep, which inherits the hop, over `depth` levels below it.
+/// Computes what the nodes from a node on keep, which inherits the hop, over `depth` levels below it.
 #[cycle(settle)]
 pub(crate) fn settle(
     alloc: Global,
@@ -133,7 +133,7 @@ pub(crate) fn settle(
     Ok(())
 }
 
-/// The same of a half, where it is a node.
+/// The same of a half, if it is a node.
 #[cycle(settle)]
 fn settle_half(
     alloc: Global,
@@ -157,7 +157,7 @@ fn settle_half(
     }
 }
 
-/// Tells what all nodes keep.
+/// Computes what all nodes keep.
 pub(crate) fn settle_all(alloc: Global, family: Family, nodes: &mut Nodes) -> Result<(), AllocError>
     requires arena { IsArena family (cells_of nodes.old) nodes.old.free }
     ensures cells { cells_of nodes.new ≡ cells_of nodes.old }
@@ -174,7 +174,7 @@ pub(crate) fn settle_all(alloc: Global, family: Family, nodes: &mut Nodes) -> Re
 ///
 /// # Errors
 ///
-/// No memory, which comes too where there would be 2^31 nodes or more; then a front of the routes may be set.
+/// Out of memory, also if there would be 2^31 nodes or more; then the first n routes may be set, for some n.
 fn insert_rest<S: EntrySource>(
     family: Family,
     nodes: &mut Nodes,
@@ -192,13 +192,13 @@ fn insert_rest<S: EntrySource>(
     Ok(())
 }
 
-/// Sets those of the routes that are of the family in a tree of the root alone, each in its turn, and tells what all nodes
-/// keep. A front of them that stands in the order of prefixes is built in one walk; only where more are left are those set
-/// after it, and what the nodes keep told anew.
+/// Sets those of the routes that are of the family in a tree of the root alone, each in its turn, and computes what all nodes
+/// keep. The first n of them that stand in the order of prefixes are built in one walk; only if more are left are those set
+/// after it, and what the nodes keep computed anew.
 ///
 /// # Errors
 ///
-/// No memory, which comes too where there would be 2^31 nodes or more.
+/// Out of memory, also if there would be 2^31 nodes or more.
 pub(crate) fn load_all<S: EntrySource>(
     alloc: Global,
     family: Family,

@@ -1,4 +1,4 @@
-//! What the nodes are to keep where a route changes: those on the way to its prefix, and those within it with an address that
+//! What the nodes are to keep if a route changes: those on the way to its prefix, and those within it with an address that
 //! no other route keeps from it.
 //!
 //! A step is a set computed: one that a node is to keep, put together from those of its halves, or made of the hop that all its
@@ -43,7 +43,7 @@ fn join_sides(alloc: Global, bit: bool, near: &Best, far: &Best) -> Result<Best,
     }
 }
 
-/// The region of a node, of `depth` bits, where the node's own hop is this one, with the changes to what is kept there.
+/// The region of a node, of `depth` bits, if the node's own hop is this one, with the changes to what is kept there.
 #[cycle(mend)]
 fn mend<C: Counter>(
     alloc: Global,
@@ -88,7 +88,7 @@ fn is_open(node: Node) -> bool
     node.route.hop.is_none() && node.route.kept.open().passes
 }
 
-/// The same of a half, which inherits the hop, where it gets to any address there.
+/// The same of a half, which inherits the hop, if it gets to any address there.
 #[cycle(mend)]
 fn mend_half<C: Counter>(
     alloc: Global,
@@ -122,8 +122,8 @@ fn mend_half<C: Counter>(
     }
 }
 
-/// The region of a node, of `depth` bits, that inherits the hop, where the route at the path `q` below it becomes this one,
-/// with the changes to what is kept there. The path needs no node. None is told where the region keeps what it did: no region
+/// The region of a node, of `depth` bits, that inherits the hop, if the route at the path `q` below it becomes this one,
+/// with the changes to what is kept there. The path needs no node. None is returned if the region keeps what it did: no region
 /// above it then keeps anything else.
 #[cycle(plan)]
 pub(crate) fn plan<C: Counter>(

@@ -34,7 +34,7 @@ pub(crate) fn next_half<S: EntrySource>(entries: &S, at: &Prefix) -> Option<bool
     Some(bit_at(first.prefix.bits, at.family.width() - at.len - 1))
 }
 
-/// Sets a label of a node, which stands for the prefix, where the first entry is at that prefix, and takes that entry.
+/// Sets a label of a node, which stands for the prefix, if the first entry is at that prefix, and takes that entry.
 fn merge_own(nodes: &mut Nodes, i: usize, at: &Prefix, label: Label, entries: &mut &[Entry])
     ensures len { vec_len nodes.new.halves ≡ vec_len nodes.old.halves }
     ensures merged { (h levels : ℕ) → Merges label h levels (prefix_as at.now) (cells_of nodes.old)
@@ -69,11 +69,11 @@ fn open_half(nodes: &mut Nodes, i: usize, bit: bool, inherited: u16) -> Result<u
 
 /// Sets a label for those of the entries, from the first on, whose prefixes are within that of a node, each in its turn, and takes
 /// these; the first other one is left, and those after it. The node inherits the hop from the routes. It costs the nodes on the ways
-/// to them, each once where the entries stand in the order of prefixes.
+/// to them, each once if the entries stand in the order of prefixes.
 ///
 /// # Errors
 ///
-/// No memory, which comes too where there would be 2^31 nodes or more; then a front of the entries may be set.
+/// Out of memory, also if there would be 2^31 nodes or more; then the first n entries may be set, for some n.
 #[cycle(merge)]
 pub(crate) fn merge(
     nodes: &mut Nodes,

@@ -1,5 +1,5 @@
-//! The nodes of a tree in one array, where a node tells the places of its halves. A cover stands beside each label, which each
-//! change on a path tells again on its way up.
+//! The nodes of a tree in one array, in which a node has the places of its halves. A cover stands beside each label, which each
+//! change on a path computes again on its way up.
 
 ghost use Rattle.std.specs.Prelude.{◌≡◌, ◌≤◌, ◌<◌, ◌-◌, ℕ, OnOk, OnErr, IsOk, IfOk, ◌∷◌, List, Bool, true, false, [], map, ◌++◌, slice_set, vec_len, vec_capacity, ◌+◌, ◌^◌, length, suc, Some, None};
 ghost use Rattle.std.specs.Option.{is_some};
@@ -34,7 +34,7 @@ pub enum Label {
     Entry,
 }
 
-/// A node: its labels, and the places of its halves of bit 0 and of bit 1; 0 where a half is no node. It takes 24 octets.
+/// A node: its labels, and the places of its halves of bit 0 and of bit 1; 0 if a half is no node. It takes 24 octets.
 #[derive(Clone, Copy)]
 pub(crate) struct Node {
     pub(crate) route: Slot,
@@ -57,12 +57,12 @@ pub(crate) struct Nodes {
     /// What is at all other places, of halves and spare ones: that at place i, from 1 on, is at i - 1 here.
     pub(crate) halves: Vec<Place>,
     pub(crate) root: Place,
-    /// The first spare place, or 0. The node at a spare place tells the next one in `low`.
+    /// The first spare place, or 0. The node at a spare place has the next one in `low`.
     pub(crate) free: u32,
 }
 
 impl Label {
-    /// The hop that is set for a route, where one of a prefix's labels is set.
+    /// The hop that is set for a route, if one of a prefix's labels is set.
     fn route(self, hop: u16) -> Option<u16>
         ensures { result ≡ route_set self hop }
     {
@@ -96,7 +96,7 @@ impl Node {
     }
 }
 
-/// The place of a half that a node tells, if there is one.
+/// The place of a half that a node names, if there is one.
 fn linked(half: u32) -> Option<usize>
     ensures { result ≡ link half }
 {
@@ -271,7 +271,7 @@ pub(crate) fn cover(node: Node, label: Label) -> Cover
     }
 }
 
-/// A node with one of its labels set, and its cover told from those of the halves.
+/// A node with one of its labels set, and its cover computed from those of the halves.
 pub(crate) fn retell(nodes: &Nodes, node: Node, label: Label, hop: Option<u16>) -> Node
     ensures { result ≡ retold label hop (cover_at (cells_of nodes.now) label (half_place node
         false)) (cover_at (cells_of nodes.now) label (half_place node true)) node }
@@ -291,8 +291,8 @@ pub(crate) fn retell(nodes: &Nodes, node: Node, label: Label, hop: Option<u16>) 
     }
 }
 
-/// Puts a node at its place with one of its labels set and its cover told from those of the halves, and tells whether that is
-/// another than it was.
+/// Puts a node at its place with one of its labels set and its cover computed from those of the halves, and returns whether that
+/// is another than it was.
 pub(crate) fn update_node(
     nodes: &mut Nodes,
     i: usize,
@@ -315,8 +315,8 @@ pub(crate) fn update_node(
     !cover(new, label).is_same(cover(node, label))
 }
 
-/// Sets the hop of a path that has a node, or takes the path's hop away. Covers are told again on the way up as far as they
-/// change; whether the node's own has is told.
+/// Sets the hop of a path that has a node, or takes the path's hop away. Covers are computed again on the way up as far as they
+/// change; it returns whether the node's own has.
 pub(crate) fn assign(
     nodes: &mut Nodes,
     i: usize,
@@ -357,7 +357,7 @@ pub(crate) fn assign(
     }
 }
 
-/// The hop that all of a path's addresses get, or none where two get different ones.
+/// The hop that all of a path's addresses get, or none if two get different ones.
 pub(crate) fn uniform(
     nodes: &Nodes,
     i: usize,
@@ -410,7 +410,7 @@ pub(crate) fn tell<S: EntrySink>(
     Ok(())
 }
 
-/// The same of the half of the prefix that has this bit next, where it is a node.
+/// The same of the half of the prefix that has this bit next, if it is a node.
 #[cycle(tell)]
 fn tell_half<S: EntrySink>(
     nodes: &Nodes,
@@ -451,7 +451,7 @@ pub(crate) fn is_node(nodes: &Nodes, i: usize, q: u128, left: u8) -> bool
     }
 }
 
-/// Takes a place for a node: the first spare one, or a new one behind all others.
+/// Takes a place for a node: the first spare one, or a new one after all others.
 fn take(nodes: &mut Nodes) -> u32
     requires room { vec_len nodes.old.halves + 1 ≤ vec_capacity nodes.old.halves }
     requires few { vec_len nodes.old.halves + 1 < 2 ^ 32 }
@@ -472,7 +472,7 @@ fn take(nodes: &mut Nodes) -> u32
     at
 }
 
-/// Makes a half of a node a node, which keeps this, and tells its place.
+/// Makes a half of a node a node, which keeps this, and returns its place.
 pub(crate) fn split(nodes: &mut Nodes, i: usize, node: Node, bit: bool, best: Best) -> usize
     requires room { vec_len nodes.old.halves + 1 ≤ vec_capacity nodes.old.halves }
     requires few { vec_len nodes.old.halves + 1 < 2 ^ 32 }
@@ -536,7 +536,7 @@ pub(crate) fn grow(nodes: &mut Nodes, i: usize, q: u128, left: u8, inherited: u1
     }
 }
 
-/// Tells the cover of a node again where that of a half has changed, and tells whether it is another than it was.
+/// Computes the cover of a node again if that of a half has changed, and returns whether it is another than it was.
 pub(crate) fn climb(nodes: &mut Nodes, i: usize, label: Label, changed: bool) -> bool
     ensures kept { bests_of nodes.new ≡ bests_of nodes.old }
     ensures free { nodes.new.free ≡ nodes.old.free }
@@ -551,7 +551,7 @@ pub(crate) fn climb(nodes: &mut Nodes, i: usize, label: Label, changed: bool) ->
 }
 
 /// Sets the hop of one of a path's labels, below a node that inherits the hop from the routes, and makes nodes down to the path:
-/// in one walk there and back. It tells whether the cover of the label is another at the node than it was. The new nodes keep
+/// in one walk there and back. It returns whether the cover of the label is another at the node than it was. The new nodes keep
 /// what stands for their regions once a route is set.
 pub(crate) fn grow_label<C: Counter>(
     nodes: &mut Nodes,
@@ -596,11 +596,11 @@ pub(crate) fn grow_label<C: Counter>(
     }
 }
 
-/// The same, where there may be no room yet for the nodes; it takes memory only where the path is no node.
+/// The same, if there may be no room yet for the nodes; it takes memory only if the path is no node.
 ///
 /// # Errors
 ///
-/// No memory, which comes too where there would be 2^31 nodes or more; then nothing has changed.
+/// Out of memory, also if there would be 2^31 nodes or more; then nothing has changed.
 pub(crate) fn set_label(
     nodes: &mut Nodes,
     i: usize,
@@ -643,11 +643,11 @@ pub(crate) fn set_label(
 /// The most places of halves there may be; with the root's it is 2^31 - 1.
 pub(crate) const MOST: usize = 0x7fff_fffe;
 
-/// Makes sure that so many more places take no memory.
+/// Makes sure that `more` further places take no memory.
 ///
 /// # Errors
 ///
-/// No memory, which comes too where there would be 2^31 nodes or more.
+/// Out of memory, also if there would be 2^31 nodes or more.
 pub(crate) fn reserve(nodes: &mut Nodes, more: usize) -> Result<(), AllocError>
     requires { more ≤ 128 }
     ensures cells { (cells_of nodes.new ≡ cells_of nodes.old) × (nodes.new.free ≡ nodes.old.free) }

@@ -24,7 +24,7 @@ pub struct TreeRegion<'a> {
     pub(crate) nodes: &'a Nodes,
     /// The place of the prefix's node, if it is one.
     pub(crate) place: Option<usize>,
-    /// How many bits addresses have behind the prefix.
+    /// How many bits addresses have after the prefix.
     pub(crate) bits: u8,
     /// The hop from the routes above.
     pub(crate) hop: u16,
@@ -45,7 +45,7 @@ impl<'a> Model for TreeRegion<'a> {
 }
 
 impl<'a> TreeRegion<'a> {
-    /// The one hop that all addresses of the region get from the routes, or `None` where two get different ones.
+    /// The one hop that all addresses of the region get from the routes, or `None` if two get different ones.
     pub fn leaf(&self) -> Option<u16>
         ensures one { IfSome result (λ h. (a : List Bool) → length a ≡ self.now.bits
             → spot_answers self.now a ≡ h) }
@@ -102,7 +102,7 @@ impl<'a> TreeRegion<'a> {
     ///
     /// # Errors
     ///
-    /// No memory.
+    /// Out of memory.
     pub fn hops(&self, alloc: Global) -> Result<HopSet, AllocError>
         ensures { IfOk result (λ s. SameHops s (set_of self.now.bits (spot_answers self.now))) }
     {

@@ -123,13 +123,13 @@ impl Tree {
         }
     }
 
-    /// A tree with those of the routes that are of its family, the last at each prefix. A front of them that stands in the order
-    /// of prefixes, each once, is built in one walk, which costs its nodes; any others are set after it, at the cost of their
-    /// lengths too, and what the nodes keep is then told anew.
+    /// A tree with those of the routes that are of its family, the last at each prefix. The first n of them that stand in the
+    /// order of prefixes, each once, are built in one walk, which costs its nodes; any others are set after it, at the cost of
+    /// their lengths too, and what the nodes keep is then computed anew.
     ///
     /// # Errors
     ///
-    /// No memory, which comes too where there would be 2^31 nodes or more.
+    /// Out of memory, also if there would be 2^31 nodes or more.
     pub fn load(alloc: Global, family: Family, routes: &[Entry]) -> Result<Tree, AllocError>
         ensures family { IfOk result (λ t. t.family ≡ family) }
         ensures routes { IfOk result (λ t. t.routes ≡ in_order (filter (λ e. same_family family
@@ -145,7 +145,7 @@ impl Tree {
     ///
     /// # Errors
     ///
-    /// No memory, which comes too where there would be 2^31 nodes or more.
+    /// Out of memory, also if there would be 2^31 nodes or more.
     pub fn load_from<S: EntrySource>(
         alloc: Global,
         family: Family,
@@ -170,12 +170,12 @@ impl Tree {
     }
 
     /// A tree without entries is given those of these entries that are of its family, the last at each prefix. It costs the
-    /// nodes on the ways to them, each once where the entries stand in the order of prefixes. The last change of a route can't
+    /// nodes on the ways to them, each once if the entries stand in the order of prefixes. The last change of a route can't
     /// be put back any more.
     ///
     /// # Errors
     ///
-    /// No memory, which comes too where there would be 2^31 nodes or more.
+    /// Out of memory, also if there would be 2^31 nodes or more.
     pub fn insert_entries(self, entries: &[Entry]) -> Result<Tree, AllocError>
         requires { self.entries ≡ [] }
         ensures family { IfOk result (λ t. t.family ≡ self.family) }
@@ -216,11 +216,11 @@ impl Tree {
         Ok(list)
     }
 
-    /// Hands the routes on one by one, in the order of prefixes: it takes no memory of its own, and costs the nodes.
+    /// Passes the routes on one by one, in the order of prefixes: it takes no memory of its own, and costs the nodes.
     ///
     /// # Errors
     ///
-    /// No memory; then a front of the routes was taken.
+    /// Out of memory; then the first n routes were taken, for some n.
     pub fn emit_routes<S: EntrySink>(&self, out: &mut S) -> Result<(), AllocError>
         requires { S.ready out.old }
         ensures ready { OnOk result (S.ready out.new) }
@@ -230,11 +230,11 @@ impl Tree {
         Ok(())
     }
 
-    /// Hands the entries on one by one, in the order of prefixes: it takes no memory of its own, and costs the nodes.
+    /// Passes the entries on one by one, in the order of prefixes: it takes no memory of its own, and costs the nodes.
     ///
     /// # Errors
     ///
-    /// No memory; then a front of the entries was taken.
+    /// Out of memory; then the first n entries were taken, for some n.
     pub fn emit_entries<S: EntrySink>(&self, out: &mut S) -> Result<(), AllocError>
         requires { S.ready out.old }
         ensures ready { OnOk result (S.ready out.new) }
@@ -312,7 +312,7 @@ impl Tree {
     ///
     /// # Errors
     ///
-    /// No memory, which comes too where there would be 2^31 nodes or more; then nothing has changed.
+    /// Out of memory, also if there would be 2^31 nodes or more; then nothing has changed.
     pub fn room(&mut self, prefix: &Prefix) -> Result<(), AllocError>
         requires { prefix.now.family ≡ self.old.family }
         ensures family { self.new.family ≡ self.old.family }
@@ -377,7 +377,7 @@ impl Tree {
         ))
     }
 
-    /// The hop that every address of the prefix gets by longest match among the routes, or `None` where two get different
+    /// The hop that every address of the prefix gets by longest match among the routes, or `None` if two get different
     /// ones.
     pub fn uniform_route(&self, prefix: &Prefix) -> Option<Hop>
         requires { prefix.now.family ≡ self.now.family }
@@ -390,7 +390,7 @@ impl Tree {
         Some(Hop(hop))
     }
 
-    /// The hop that every address of the prefix gets by longest match among the entries, or `None` where two get different
+    /// The hop that every address of the prefix gets by longest match among the entries, or `None` if two get different
     /// ones.
     pub fn uniform_entry(&self, prefix: &Prefix) -> Option<Hop>
         requires { prefix.now.family ≡ self.now.family }
@@ -435,11 +435,11 @@ impl Tree {
         seek(&self.nodes, 0, path_bits(prefix), prefix.len)
     }
 
-    /// Sets the route of a prefix that is a node, or takes a prefix's route away, where it is known what there is at it.
+    /// Sets the route of a prefix that is a node, or takes a prefix's route away, if it is known what there is at it.
     ///
     /// # Errors
     ///
-    /// No memory; then nothing has changed.
+    /// Out of memory; then nothing has changed.
     fn alter_route<C: Counter>(
         &mut self,
         prefix: &Prefix,
@@ -490,7 +490,7 @@ impl Tree {
     ///
     /// # Errors
     ///
-    /// No memory.
+    /// Out of memory.
     pub fn entries_within(&self, prefix: &Prefix) -> Result<Vec<Entry>, AllocError>
         requires { prefix.now.family ≡ self.now.family }
         ensures order { InPlace self.now.entries }
@@ -504,11 +504,11 @@ impl Tree {
     }
 
     /// Takes the prefix's route away, if it has one. It costs the nodes on the way to the prefix, and those within it that no
-    /// route of their own keeps from it, with their sets of hops. Where the prefix is a node, `put_back` takes it back.
+    /// route of their own keeps from it, with their sets of hops. If the prefix is a node, `put_back` takes it back.
     ///
     /// # Errors
     ///
-    /// No memory; then nothing has changed.
+    /// Out of memory; then nothing has changed.
     pub fn clear_route(&mut self, prefix: &Prefix) -> Result<(), AllocError>
         requires { prefix.now.family ≡ self.old.family }
         ensures family { self.new.family ≡ self.old.family }
@@ -530,7 +530,7 @@ impl Tree {
     ///
     /// # Errors
     ///
-    /// No memory; then nothing has changed.
+    /// Out of memory; then nothing has changed.
     pub fn clear_route_counted<C: Counter>(
         &mut self,
         prefix: &Prefix,
@@ -553,11 +553,11 @@ impl Tree {
         Ok(())
     }
 
-    /// Makes the prefix a node, and returns the hop of its own route, if it has one. Where it is a node, one walk finds both.
+    /// Makes the prefix a node, and returns the hop of its own route, if it has one. If it is a node, one walk finds both.
     ///
     /// # Errors
     ///
-    /// No memory; then nothing has changed.
+    /// Out of memory; then nothing has changed.
     fn node_route(&mut self, prefix: &Prefix) -> Result<Option<u16>, AllocError>
         requires { prefix.now.family ≡ self.old.family }
         ensures order { InPlace self.old.routes }
@@ -582,12 +582,12 @@ impl Tree {
     }
 
     /// Makes the prefix a node, gives it this route or none, and returns the route that it had: what `room`, `route`, and then
-    /// `set_route` or `clear_route` come to, with one walk in search of the prefix where it is a node already. `put_back` takes
+    /// `set_route` or `clear_route` come to, with one walk in search of the prefix if it is a node already. `put_back` takes
     /// the change of the route back.
     ///
     /// # Errors
     ///
-    /// No memory; then no route and no entry has changed, and where the prefix was a node nothing has.
+    /// Out of memory; then no route and no entry has changed, and if the prefix was a node nothing has.
     pub fn replace_route(
         &mut self,
         prefix: &Prefix,
@@ -618,7 +618,7 @@ impl Tree {
         Ok(hop_of(hop))
     }
 
-    /// Puts the routes back as they were before the last call of `set_route` or `clear_route`, with all that nodes keep, where
+    /// Puts the routes back as they were before the last call of `set_route` or `clear_route`, with all that nodes keep, if
     /// its prefix was a node before it, and no node was made or dropped since; else it changes nothing. It takes no memory, and
     /// costs what that call did.
     pub fn put_back(&mut self)
@@ -655,11 +655,11 @@ impl Tree {
     }
 
     /// Sets the hop of the prefix's route. It costs the nodes on the way to the prefix, and those within it that no route of
-    /// their own keeps from it, with their sets of hops. Where the prefix is a node, `put_back` takes it back.
+    /// their own keeps from it, with their sets of hops. If the prefix is a node, `put_back` takes it back.
     ///
     /// # Errors
     ///
-    /// No memory; then nothing has changed.
+    /// Out of memory; then nothing has changed.
     pub fn set_route(&mut self, prefix: &Prefix, hop: Hop) -> Result<(), AllocError>
         requires { prefix.now.family ≡ self.old.family }
         ensures family { self.new.family ≡ self.old.family }
@@ -684,7 +684,7 @@ impl Tree {
     ///
     /// # Errors
     ///
-    /// No memory; then nothing has changed.
+    /// Out of memory; then nothing has changed.
     pub fn set_route_counted<C: Counter>(
         &mut self,
         prefix: &Prefix,
@@ -732,7 +732,7 @@ impl Tree {
     ///
     /// # Errors
     ///
-    /// No memory, which comes only where the prefix isn't a node; then nothing has changed.
+    /// Out of memory, only if the prefix isn't a node; then nothing has changed.
     pub fn set_entry(&mut self, prefix: &Prefix, hop: Hop) -> Result<(), AllocError>
         requires { prefix.now.family ≡ self.old.family }
         ensures family { self.new.family ≡ self.old.family }

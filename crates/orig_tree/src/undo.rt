@@ -14,7 +14,7 @@ pub(crate) struct Undo {
     pub(crate) len: u8,
 }
 
-/// What is to be kept of a change, which can be taken back where its path was a node already.
+/// What is to be kept of a change, which can be taken back if its path was a node already.
 pub(crate) fn keep_if(was_node: bool, undo: Undo) -> Option<Undo>
     ensures { result ≡ cond was_node (Some undo) None }
 {

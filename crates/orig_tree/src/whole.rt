@@ -35,12 +35,12 @@ pub(crate) fn empty(alloc: Global, family: Family) -> Nodes
     root_alone(alloc)
 }
 
-/// Makes a path a node. It changes no table. Where it is one already, nothing changes; else the last change of a route can't
+/// Makes a path a node. It changes no table. If it is one already, nothing changes; else the last change of a route can't
 /// be taken back any more.
 ///
 /// # Errors
 ///
-/// No memory; then nothing has changed.
+/// Out of memory; then nothing has changed.
 pub(crate) fn make_room(
     family: Family,
     nodes: &mut Nodes,
@@ -76,11 +76,11 @@ pub(crate) fn make_room(
 }
 
 /// Makes a path a node and sets its route, with what is kept for the regions that it changes. The list is room for the
-/// changes, and is handed back.
+/// changes, and is returned.
 ///
 /// # Errors
 ///
-/// No memory; then nothing has changed.
+/// Out of memory; then nothing has changed.
 pub(crate) fn insert_route<C: Counter>(
     alloc: Global,
     family: Family,
@@ -124,11 +124,11 @@ pub(crate) fn insert_route<C: Counter>(
 }
 
 /// Sets the route of a path that has a node, or takes the path's route away, with what is kept for the regions that it
-/// changes. What was kept before is handed back, so that it can be taken back; the list is room for it.
+/// changes. What was kept before is returned, so that it can be taken back; the list is room for it.
 ///
 /// # Errors
 ///
-/// No memory; then nothing has changed.
+/// Out of memory; then nothing has changed.
 pub(crate) fn update_route<C: Counter>(
     alloc: Global,
     family: Family,
@@ -169,7 +169,7 @@ pub(crate) fn update_route<C: Counter>(
     Ok(changes)
 }
 
-/// Takes a change of a route back, with what was kept before, and hands back the room that it took. It takes no memory.
+/// Takes a change of a route back, with what was kept before, and returns the room that it took. It takes no memory.
 pub(crate) fn take_back(family: Family, nodes: &mut Nodes, undo: Undo) -> Vec<Change>
     requires arena { IsArena family (cells_of nodes.old) nodes.old.free }
     requires undo { CanUndo family (cells_of nodes.old) (best_in nodes.old) (Some undo) }
@@ -200,11 +200,11 @@ pub(crate) fn change(family: Family, nodes: &mut Nodes, q: u128, len: u8, hop: O
     assign(nodes, 0, Label::Entry, q, len, hop);
 }
 
-/// Makes a path a node and sets its entry. Where it is no node yet, the last change of a route can't be taken back any more.
+/// Makes a path a node and sets its entry. If it is no node yet, the last change of a route can't be taken back any more.
 ///
 /// # Errors
 ///
-/// No memory, which comes only where the path is no node; then nothing has changed.
+/// Out of memory, only if the path is no node; then nothing has changed.
 pub(crate) fn insert_entry(
     family: Family,
     nodes: &mut Nodes,

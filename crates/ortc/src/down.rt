@@ -1,6 +1,6 @@
 //! The downward pass, and the calls that make a table.
 //!
-//! A region gets an entry where what it inherits isn't in its set: of the old entry's hop where the set has it, else of the
+//! A region gets an entry if what it inherits isn't in its set: of the old entry's hop if the set has it, else of the
 //! least hop. Entries are met in the order of prefixes.
 
 ghost use Rattle.std.specs.Prelude.{◌≡◌, ◌≤◌, ◌+◌, ◌*◌, length, [], map, cond, nat_eq, Some, None, IfOk, OnOk};
@@ -35,8 +35,8 @@ fn leaf_hop(hop: u16, inherited: u16) -> Option<u16>
     if hop == inherited { None } else { Some(hop) }
 }
 
-/// The hop of a region's own entry, if it gets one: none where what it inherits is best for it, else the old entry's hop
-/// where that is best, else the least of the best hops.
+/// The hop of a region's own entry, if it gets one: none if what it inherits is best for it, else the old entry's hop
+/// if that is best, else the least of the best hops.
 pub fn own_hop(region: &TreeRegion<'_>, inherited: u16) -> Option<u16>
     ensures { result ≡ own (set_of region.now.bits (spot_answers region.now)) (root region.now.entries)
         inherited }
@@ -89,14 +89,14 @@ fn descend<S: EntrySink, C: Counter>(
     Ok(())
 }
 
-/// The least table of a prefix's region under a hop that is inherited from above: of the tables that, under it, give the
-/// region's addresses the answers of the tree's routes, the one that the best hops fix, with the tree's entries as the
-/// old table, in the order of prefixes. It costs the prefix's length, and the nodes within the prefix: what is best for them
-/// they keep.
+/// The least table of a prefix's region under a hop that is inherited from above, in the order of prefixes. Of the tables that
+/// give the region's addresses the answers of the tree's routes under that hop, it is the one that the best hops fix, with the
+/// tree's entries as the old table. It costs the prefix's length, and the nodes within the prefix: what is best for them they
+/// keep.
 ///
 /// # Errors
 ///
-/// No memory.
+/// Out of memory.
 pub fn within(
     alloc: Global,
     tree: &Tree,
@@ -124,7 +124,7 @@ pub fn within(
 ///
 /// # Errors
 ///
-/// No memory.
+/// Out of memory.
 pub fn within_counted<C: Counter>(
     alloc: Global,
     tree: &Tree,
@@ -153,13 +153,13 @@ pub fn within_counted<C: Counter>(
     Ok(table)
 }
 
-/// Hands on the entries of the least table with the answers of the tree's routes: of all such tables the one that the best hops
+/// Passes on the entries of the least table with the answers of the tree's routes: of all such tables the one that the best hops
 /// fix, with the tree's entries as the old table, in the order of prefixes. It costs the tree's nodes, and takes no memory of its
 /// own: what is best for the nodes they keep.
 ///
 /// # Errors
 ///
-/// No memory; then a front of the entries was taken.
+/// Out of memory; then the first n entries were taken, for some n.
 pub fn emit_least<S: EntrySink>(tree: &Tree, out: &mut S) -> Result<(), AllocError>
     requires { S.ready out.old }
     ensures ready { OnOk result (S.ready out.new) }
@@ -177,7 +177,7 @@ pub fn emit_least<S: EntrySink>(tree: &Tree, out: &mut S) -> Result<(), AllocErr
 ///
 /// # Errors
 ///
-/// No memory.
+/// Out of memory.
 pub fn least_table(alloc: Global, tree: &Tree) -> Result<Vec<Entry>, AllocError>
     ensures aggregate { IfOk result (λ v. map entry_as v.items
         ≡ aggregate_in tree.now.family tree.now.routes tree.now.entries) }
@@ -197,7 +197,7 @@ pub fn least_table(alloc: Global, tree: &Tree) -> Result<Vec<Entry>, AllocError>
 ///
 /// # Errors
 ///
-/// No memory.
+/// Out of memory.
 pub fn fresh(alloc: Global, tree: &Tree) -> Result<Fresh, AllocError>
     ensures aggregate { IfOk result (λ v. map entry_as v.table.items
         ≡ aggregate_in tree.now.family tree.now.routes tree.now.entries) }

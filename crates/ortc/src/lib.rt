@@ -1,7 +1,7 @@
 //! Least tables by three passes over a tree (Draves, King, Venkatachary and Zill, 'Constructing Optimal IP Routing Tables',
-//! INFOCOM 1999): the routes are pushed to the leaves, each region gets the set of its best hops from those of its halves,
-//! and from the root down a region gets an entry where what it inherits isn't in its set. The regions, told with the cost of
-//! each, are the rows of a certificate: they prove the table least.
+//! INFOCOM 1999). The routes are pushed to the leaves. Each region gets the set of its best hops from those of its halves.
+//! From the root down a region gets an entry if what it inherits isn't in its set. The regions, with the cost of each, are
+//! the rows of a certificate: they prove the table least.
 #![tactic(auto)]
 
 mod down;

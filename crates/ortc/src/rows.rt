@@ -1,7 +1,7 @@
 //! The rows that prove a table least.
 //!
 //! A region that is a leaf has a leaf row; any other has the rows of its lower half, those of its upper half, and a join row.
-//! There is one row for each region, and one for the bound. Rows are handed on one by one: no list of them is made here.
+//! There is one row for each region, and one for the bound. Rows are passed on one by one: no list of them is made here.
 
 ghost use Rattle.std.specs.Prelude.{◌≡◌, ◌+◌, ℕ, ◌++◌, List, Bool, [], ◌∷◌, IfOk, OnOk};
 ghost use Rattle.table_model.specs.Width.{width};
@@ -41,7 +41,7 @@ fn emit_rows<S: RowSink>(
     Ok(())
 }
 
-/// How many entries a least table of the region has, where nothing is inherited.
+/// How many entries a least table of the region has, if nothing is inherited.
 fn bound_of(region: &TreeRegion<'_>) -> Result<u64, AllocError>
     ensures { IfOk result (λ n. n ≡ bound_by (set_of region.now.bits (spot_answers region.now))
         (k_of region.now.bits (spot_answers region.now))) }
@@ -52,13 +52,13 @@ fn bound_of(region: &TreeRegion<'_>) -> Result<u64, AllocError>
     region.k().checked_add(1).ok_or(AllocError)
 }
 
-/// Hands on the rows that prove how many entries a least table with the answers of the tree's routes has: those of the regions,
+/// Passes on the rows that prove how many entries a least table with the answers of the tree's routes has: those of the regions,
 /// the lower half's and the upper half's before a region's own, and the bound. It costs the tree's nodes, and takes no memory
 /// of its own: what is best for the nodes they keep.
 ///
 /// # Errors
 ///
-/// No memory; then a front of the rows was taken.
+/// Out of memory; then the first n rows were taken, for some n.
 pub fn certify<S: RowSink>(tree: &Tree, out: &mut S) -> Result<(), AllocError>
     requires { S.ready out.old }
     ensures ready { OnOk result (S.ready out.new) }

@@ -6,7 +6,7 @@ use Rattle.buddy_arena.specs.Blocks.{Held}
 use Rattle.poptrie_build.specs.Bits.{rank_of}
 use Rattle.poptrie_build.specs.declared.node.Node.{Node}
 
--- the block of an array of so many; an array of nothing has none
+-- the block of an array of `count` places; an array of nothing has none
 abbrev pub block_of : ℕ → ℕ → List Array
 block_of base count = cond (nat_eq count 0) [] ((base, up count) ∷ [])
 

@@ -17,11 +17,11 @@ use Rattle.poptrie_build.specs.Need.{children, runs}
 use Rattle.path_copying.specs.declared.blocks.Refusal.{Refusal}
 use Rattle.path_copying.specs.declared.blocks.Refusal.TheVariants as refusal
 
--- a block of so many places, of the arena 0 of nodes or the arena 1 of leaves
+-- a block of n places, of the arena 0 of nodes or the arena 1 of leaves
 abbrev pub Ask : Type 0
 Ask = ℕ × ℕ
 
--- one for so many children or leaves, none for none
+-- one for n children or leaves, none for none
 abbrev pub ask_for : ℕ → ℕ → List Ask
 ask_for arena zero = []
 ask_for arena (suc n) = (arena, up (suc n)) ∷ []
@@ -51,7 +51,7 @@ asks (suc k) d f g = if_changed (alike d f g) (one_answer d f) ((ask_for 0 (chil
 abbrev pub Frees : Type 0
 Frees = List Bool × List Bool
 
--- a block of so many places comes out
+-- a block of n places comes out
 abbrev pub MeetsNeed : ℕ → ℕ → List Bool → List Bool → Type 0
 MeetsNeed order need old new = (place : ℕ) × (k : ℕ) × (2 ^ k ≡ need) × TakesBlock order old new place k
 
@@ -69,7 +69,7 @@ unfoldable pub MeetsInTurn : (node_order leaf_order : ℕ) → List Ask → Free
 MeetsInTurn n l [] s t = t ≡ s
 MeetsInTurn n l (a ∷ rest) s t = (u : Frees) × MeetsAsk n l a s u × MeetsInTurn n l rest u t
 
--- no free block is large enough, and the greatest order of a free block is told
+-- no free block is large enough, and the greatest order of a free block is named
 abbrev pub RefusesBlock : ℕ → ℕ → List Bool → Full → Type 0
 RefusesBlock order need free e = (2 ^ e.order ≡ need) × NoneFrom e.order (blocks order free) × IsGreatest e.largest (blocks order free)
 
@@ -83,12 +83,12 @@ unfoldable pub RunsOut : (node_order leaf_order : ℕ) → List Ask → Frees �
 RunsOut n l [] s e = ⊥
 RunsOut n l (a ∷ rest) s e = RefusesAsk n l a s e ⊎ ((u : Frees) × MeetsAsk n l a s u × RunsOut n l rest u e)
 
--- a refusal that is no want of memory
+-- a refusal that isn't out of memory
 abbrev pub IsOutOfBlocks : (node_order leaf_order : ℕ) → List Ask → Frees → Refusal → Type 0
 IsOutOfBlocks n l xs s refusal.Memory = Unit {0}
 IsOutOfBlocks n l xs s e = RunsOut n l xs s e
 
--- a block's refusal, told of its arena
+-- a block's refusal, as one of its arena
 abbrev pub nodes_refusal : Refused → Refusal
 nodes_refusal refused.Memory = refusal.Memory
 nodes_refusal (refused.Full f) = refusal.Nodes f
@@ -97,7 +97,7 @@ abbrev pub leaves_refusal : Refused → Refusal
 leaves_refusal refused.Memory = refusal.Memory
 leaves_refusal (refused.Full f) = refusal.Leaves f
 
--- ---- what a part that stood for some answers g asks for where it is to stand for the answers f
+-- ---- what a part that stood for some answers g asks for if it is to stand for the answers f
 abbrev pub MeetsAll : Space Node → Space ℕ → Option Node → Space Node → Space ℕ → ℕ → (List Bool → ℕ) → Type 0
 MeetsAll nodes leaves was nodes2 leaves2 d f =
     (k : ℕ) (g : List Bool → ℕ) → d ≤ 6 * k → StandsAs k nodes.cells (is_out nodes.free) leaves.cells (is_out leaves.free) was d g → MeetsInTurn nodes.order leaves.order (asks k d f g) (nodes.free, leaves.free) (nodes2.free, leaves2.free)
@@ -106,7 +106,7 @@ abbrev pub MeetsNotAll : Space Node → Space ℕ → Option Node → ℕ → (L
 MeetsNotAll nodes leaves was d f e =
     (k : ℕ) (g : List Bool → ℕ) → d ≤ 6 * k → StandsAs k nodes.cells (is_out nodes.free) leaves.cells (is_out leaves.free) was d g → IsOutOfBlocks nodes.order leaves.order (asks k d f g) (nodes.free, leaves.free) e
 
--- the same where an answer changes
+-- the same if an answer changes
 abbrev pub MeetsChanged : Space Node → Space ℕ → Option Node → Space Node → Space ℕ → ℕ → (List Bool → ℕ) → Type 0
 MeetsChanged nodes leaves was nodes2 leaves2 d f =
     (k : ℕ) (g : List Bool → ℕ) → d ≤ 6 * k → StandsAs k nodes.cells (is_out nodes.free) leaves.cells (is_out leaves.free) was d g → alike d f g ≡ false → MeetsInTurn nodes.order leaves.order (asks k d f g) (nodes.free, leaves.free) (nodes2.free, leaves2.free)
@@ -127,7 +127,7 @@ abbrev pub MeetsNotWord : Space Node → Space ℕ → ℕ → ℕ → (List Boo
 MeetsNotWord nodes leaves w d f e =
     (k : ℕ) (g : List Bool → ℕ) → d ≤ 6 * k → WordIn w k nodes.cells (is_out nodes.free) leaves.cells (is_out leaves.free) d g → IsOutOfBlocks nodes.order leaves.order (word_asks k d f g) (nodes.free, leaves.free) e
 
--- the same where an answer changes
+-- the same if an answer changes
 abbrev pub MeetsChangedWord : Space Node → Space ℕ → ℕ → Space Node → Space ℕ → ℕ → (List Bool → ℕ) → Type 0
 MeetsChangedWord nodes leaves w nodes2 leaves2 d f =
     (k : ℕ) (g : List Bool → ℕ) → d ≤ 6 * k → WordIn w k nodes.cells (is_out nodes.free) leaves.cells (is_out leaves.free) d g → alike d f g ≡ false → MeetsInTurn nodes.order leaves.order (word_asks k d f g) (nodes.free, leaves.free) (nodes2.free, leaves2.free)

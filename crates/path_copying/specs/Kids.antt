@@ -1,4 +1,4 @@
--- A node and its 64 children, each with nothing in its place where the slot's region has one answer.
+-- A node and its 64 children, each with nothing in its place if the slot's region has one answer.
 use Rattle.std.specs.Prelude.{◌≡◌, ℕ, ◌+◌, ◌-◌, List, [], Bool, Option, Some, None, cond, nat_eq, slice_index_or}
 use Rattle.std.specs.Int.{bit_at}
 use Rattle.buddy_arena.specs.Space.{Space}

@@ -12,7 +12,7 @@ use Rattle.poptrie_build.specs.Strides.{total}
 use Rattle.poptrie_build.specs.declared.node.Node.{Node}
 use Rattle.path_copying.specs.Alike.{SameAnswers}
 
--- its node, where it is no hop
+-- its node, if it is no hop
 abbrev pub node_of : List Node → ℕ → Option Node
 node_of nodes w = cond (nat_lt w 2147483648) (Some (node_at nodes w)) None
 
@@ -44,7 +44,7 @@ abbrev pub ReplacesWord : Space Node → Held → Space ℕ → Held → ℕ →
 ReplacesWord nodes nb leaves lb w nodes2 nb2 leaves2 lb2 w2 d f =
     (k : ℕ) (g : List Bool → ℕ) (beside beside2 : List Array) (m m2 : ℕ) → d ≤ 6 * k → WordPart k nodes leaves w d g (nb.replaced ++ beside) (lb.replaced ++ beside2) m m2 → WordPart k nodes2 leaves2 w2 d f (nb2.replaced ++ beside) (lb2.replaced ++ beside2) m m2
 
--- the word is as it was where no address gets another answer
+-- the word is as it was if no address gets another answer
 abbrev pub KeepsWord : Space Node → Space ℕ → ℕ → ℕ → ℕ → (List Bool → ℕ) → Type 0
 KeepsWord nodes leaves w w2 d f =
     (k : ℕ) (g : List Bool → ℕ) → WordIn w k nodes.cells (is_out nodes.free) leaves.cells (is_out leaves.free) d g → SameAnswers d f g → w2 ≡ w

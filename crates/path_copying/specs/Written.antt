@@ -6,7 +6,7 @@ use Rattle.poptrie_build.specs.Making.{slot_kind}
 use Rattle.poptrie_build.specs.declared.node.Node.{Node}
 use Rattle.path_copying.specs.Kids.{kid_in}
 
--- a slot has a child exactly where it has no hop
+-- a slot has a child exactly if it has no hop
 abbrev pub Matches : Option ℕ → Option Node → Type 0
 Matches None None = ⊥
 Matches None (Some n) = Unit {0}

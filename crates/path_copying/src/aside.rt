@@ -13,11 +13,11 @@ use buddy_arena::{Arena, Blocks};
 use poptrie_build::{Node, rank};
 use std::alloc::AllocError;
 
-/// Reads a node's children, and puts the blocks of its children and leaves aside; nothing where there is no node.
+/// Reads a node's children, and puts the blocks of its children and leaves aside; nothing if there is no node.
 ///
 /// # Errors
 ///
-/// No memory.
+/// Out of memory.
 pub(crate) fn open_node(
     node: Option<Node>,
     nodes: &Arena<Node>,
@@ -49,11 +49,11 @@ pub(crate) fn open_node(
     }
 }
 
-/// Puts all blocks at and below a node aside, which stands for a region of so many more bits.
+/// Puts all blocks at and below a node aside, which stands for a region of `bits` more bits.
 ///
 /// # Errors
 ///
-/// No memory.
+/// Out of memory.
 pub(crate) fn set_aside_all(
     bits: u8,
     node: &Node,

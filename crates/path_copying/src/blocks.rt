@@ -16,7 +16,7 @@ use std::alloc::AllocError;
 /// Why a part of a trie isn't made anew.
 #[derive(Clone, Copy, Debug, PartialEq, Eq)]
 pub enum Refusal {
-    /// No memory for the lists of blocks.
+    /// Out of memory for the lists of blocks.
     Memory,
     /// No free block of the nodes' arena is large enough.
     Nodes(Full),
@@ -57,11 +57,11 @@ impl From<AllocError> for Refusal {
     }
 }
 
-/// Takes a block for so many places, none for none.
+/// Takes a block for `count` places, none for none.
 ///
 /// # Errors
 ///
-/// No memory, or no free block is large enough. Nothing has changed.
+/// Out of memory, or no free block is large enough. Nothing has changed.
 pub(crate) fn take_block<T: Copy>(
     arena: &mut Arena<T>,
     blocks: &mut Blocks,
@@ -87,11 +87,11 @@ pub(crate) fn take_block<T: Copy>(
     Ok(block.place)
 }
 
-/// Puts the block of so many places aside, none for none.
+/// Puts the block of `count` places aside, none for none.
 ///
 /// # Errors
 ///
-/// No memory. Nothing has changed.
+/// Out of memory. Nothing has changed.
 pub(crate) fn set_aside_block(blocks: &mut Blocks, base: u32, count: u32) -> Result<(), AllocError>
     requires { blocks.old.time < 18446744073709551615 }
     ensures ok { OnOk result (blocks.new ≡ with_aside blocks.old base count) }

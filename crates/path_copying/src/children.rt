@@ -13,7 +13,7 @@ ghost use Rattle.path_copying.specs.Written.{AreMatched, IsBlockOut, WritesCells
 use buddy_arena::{Arena, put};
 use poptrie_build::{Node, rank};
 
-/// The child at a slot, nothing where the slot is a leaf or there is no node.
+/// The child at a slot, nothing if the slot is a leaf or there is no node.
 fn child_at(node: Option<Node>, slot: u8, nodes: &Arena<Node>) -> Option<Node>
     requires slot { slot < 64 }
     requires sized { IsSized nodes.now }
@@ -31,7 +31,7 @@ fn child_at(node: Option<Node>, slot: u8, nodes: &Arena<Node>) -> Option<Node>
     }
 }
 
-/// The children of a node by its slots, none where there is no node.
+/// The children of a node by its slots, none if there is no node.
 pub(crate) fn read_children(node: Option<Node>, nodes: &Arena<Node>, kids: &mut [Option<Node>])
     requires many { length kids.old ≡ 64 }
     requires sized { IsSized nodes.now }

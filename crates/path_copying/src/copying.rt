@@ -19,12 +19,12 @@ use crate::comparing::is_same;
 use fib_addr::Region;
 use poptrie_build::{Node, ask, descend, make_vectors};
 
-/// The node that stands for a region with two different answers, of so many more bits, made anew beside the old one; there is none
-/// where the region had one answer.
+/// The node that stands for a region with two different answers, of `bits` more bits, made anew beside the old one; there is none
+/// if the region had one answer.
 ///
 /// # Errors
 ///
-/// No memory, or a block is refused. What was taken is listed, and what was to be replaced too.
+/// Out of memory, or a block is refused. What was taken is listed, and what was to be replaced too.
 #[cycle(copies)]
 pub fn copy_node<R: Region>(
     region: &R,
@@ -85,7 +85,7 @@ pub fn copy_node<R: Region>(
     Ok(node)
 }
 
-/// The child of a slot, made anew, shared where its region's answers are as they were, or none where the slot has one answer, the
+/// The child of a slot, made anew, shared if its region's answers are as they were, or none if the slot has one answer, the
 /// hop of its kind.
 ///
 /// # Errors

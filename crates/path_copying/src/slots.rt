@@ -27,7 +27,7 @@ pub struct Store {
 ///
 /// # Errors
 ///
-/// No memory, or a block is refused. What was taken is listed, and what was to be replaced too.
+/// Out of memory, or a block is refused. What was taken is listed, and what was to be replaced too.
 pub fn copy_slots<R: Region>(
     region: &R,
     bits: u8,

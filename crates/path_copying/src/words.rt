@@ -19,7 +19,7 @@ use fib_addr::{Hop, Region};
 use poptrie_build::{DirectWord, Node, hop_word};
 use std::alloc::AllocError;
 
-/// The node of a word, nothing where it is a hop.
+/// The node of a word, nothing if it is a hop.
 fn word_node(word: u32, nodes: &Arena<Node>) -> Option<Node>
     requires sized { IsSized nodes.now }
     requires word { (leaves : Space ℕ) × (d : ℕ) × IsWord nodes.now leaves word d }
@@ -31,11 +31,11 @@ fn word_node(word: u32, nodes: &Arena<Node>) -> Option<Node>
     }
 }
 
-/// Puts the block of a word's node aside, nothing where it is a hop.
+/// Puts the block of a word's node aside, nothing if it is a hop.
 ///
 /// # Errors
 ///
-/// No memory.
+/// Out of memory.
 fn set_aside_word(word: u32, node_blocks: &mut Blocks) -> Result<(), AllocError>
     requires time { node_blocks.old.time < 18446744073709551615 }
     ensures nodes { OnlyAside node_blocks.old node_blocks.new }
@@ -48,11 +48,11 @@ fn set_aside_word(word: u32, node_blocks: &mut Blocks) -> Result<(), AllocError>
     }
 }
 
-/// Puts all that a word leads to aside, for a region of so many more bits that has one answer now, and makes that its word.
+/// Puts all that a word leads to aside, for a region of `bits` more bits that has one answer now, and makes that its word.
 ///
 /// # Errors
 ///
-/// No memory.
+/// Out of memory.
 fn leave_word(
     bits: u8,
     word: u32,
@@ -122,7 +122,7 @@ fn make_word<R: Region>(
     Ok(place)
 }
 
-/// The direct word of a slot's region, of so many more bits, beside the old one: as it was where no address of the slot gets
+/// The direct word of a slot's region, of `bits` more bits, beside the old one: as it was if no address of the slot gets
 /// another answer.
 ///
 /// # Errors

@@ -36,6 +36,6 @@ unfoldable pub trie_leaves : ℕ → ℕ → ℕ → (List Bool → ℕ) → ℕ
 trie_leaves zero k d f = need_leaves k d f
 trie_leaves (suc s) k d f = trie_leaves s k d (side false f) + trie_leaves s k d (side true f)
 
--- a need told in a u64
+-- a need as a u64 holds it
 abbrev pub need_in_u64 : ℕ → ℕ
 need_in_u64 n = min n 18446744073709551615

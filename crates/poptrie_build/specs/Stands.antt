@@ -22,7 +22,7 @@ pub record IsCanonical (vector leafvec : ℕ) (g : ℕ → Option ℕ) : Type 0 
 abbrev pub IsLeaf : List ℕ → ℕ → ℕ → Type 0
 IsLeaf leaves i h = (i < length leaves) × (slice_index leaves i ≡ h)
 
--- the first where the slot has a node, the second at its answer where it is a leaf
+-- the first if the slot has a node, the second at its answer if it is a leaf
 abbrev pub BySlot : Option ℕ → Type 0 → (ℕ → Type 0) → Type 0
 BySlot None P Q = P
 BySlot (Some h) P Q = Q h

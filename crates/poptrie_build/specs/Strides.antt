@@ -11,11 +11,11 @@ slot_bits d v = take d (bits_of 6 v)
 abbrev pub slot : ℕ → (List Bool → ℕ) → ℕ → List Bool → ℕ
 slot d f v = part (slot_bits d v) f
 
--- the one answer of each slot of a region, None where the slot has a node
+-- the one answer of each slot of a region, None if the slot has a node
 abbrev pub slots : ℕ → (List Bool → ℕ) → ℕ → Option ℕ
 slots d f v = one_answer (d - 6) (slot d f v)
 
--- 1 where there is no one answer, else 0
+-- 1 if there is no one answer, else 0
 abbrev pub mixed : Option ℕ → ℕ
 mixed None = 1
 mixed (Some h) = 0
@@ -40,7 +40,7 @@ unfoldable pub leaf_before : (ℕ → Option ℕ) → ℕ → Option ℕ
 leaf_before g zero = None
 leaf_before g (suc v) = or_earlier (g v) (leaf_before g v)
 
--- 1 where a slot is a leaf and no leaf is before it, or the nearest before it differs
+-- 1 if a slot is a leaf and no leaf is before it, or the nearest before it differs
 abbrev pub starts : Option ℕ → Option ℕ → ℕ
 starts None before = 0
 starts (Some h) None = 1

@@ -8,7 +8,7 @@ use Rattle.poptrie_build.specs.declared.surveying.Survey.{Survey}
 abbrev pub IsLastOf : List ℕ → ℕ → ℕ → Type 0
 IsLastOf hops n h = (0 < n) × (slice_index_or hops (n - 1) 0 ≡ h)
 
--- the slots below v are in the vectors, and the hops of their leaves are told: a slot's is that of the last run that begins at or before it
+-- the slots below v are in the vectors, and the hops of their leaves are known: a slot's is that of the last run that begins at or before it
 pub record IsSurveyed (s : Survey) (hops : List ℕ) (g : ℕ → Option ℕ) (v : ℕ) : Type 0 where
   pub vectors : IsSoFar s.vectors g v
   pub leaves : s.leaves ≡ total (run_start g) v

@@ -12,7 +12,7 @@ pub record IsNeed (n : Needs) (x y : ℕ) : Type 0 where
   pub nodes : n.nodes ≡ need_in_u64 x
   pub leaves : n.leaves ≡ need_in_u64 y
 
--- The tally is that of the first v slots of a node. Slot u is a leaf of hop g u, or has a node where g u is None; the arrays below it
+-- The tally is that of the first v slots of a node. Slot u is a leaf of hop g u, or has a node if g u is None; the arrays below it
 -- need N u places of nodes and L u of leaves.
 pub record IsTally (t : Tally) (g : ℕ → Option ℕ) (N L : ℕ → ℕ) (v : ℕ) : Type 0 where
   pub last : t.last ≡ leaf_before g v

@@ -68,7 +68,7 @@ abbrev pub IsTooMuch : (arena need have nodes leaves node_places leaf_places : �
 IsTooMuch arena need have nodes leaves node_places leaf_places =
     ((arena ≡ 0) × (need ≡ need_in_u64 nodes) × (have ≡ node_places) × (have < nodes)) ⊎ ((arena ≡ 1) × (nodes ≤ node_places) × (need ≡ need_in_u64 leaves) × (have ≡ leaf_places) × (have < leaves))
 
--- the refusal of entries for which a trie's arenas are too small: it names the nodes where their need is more than their places, else
+-- the refusal of entries for which a trie's arenas are too small: it names the nodes if their need is more than their places, else
 -- the leaves
 abbrev pub IsRefused : Shown → Entries → TrieFull → Type 0
 IsRefused t L e = IsTooMuch e.arena e.need e.have (node_need t.family t.direct_bits L) (leaf_need t.family t.direct_bits L) (2 ^ t.nodes.order) (2 ^ t.leaves.order)

@@ -17,7 +17,7 @@ use crate::surveying::survey_slots;
 use buddy_arena::{Arena, put, take_places};
 use fib_addr::Region;
 
-/// The node that stands for the region, by places that come out; nothing where a block is refused. What was out keeps what
+/// The node that stands for the region, by places that come out; nothing if a block is refused. What was out keeps what
 /// it holds.
 pub(crate) fn build_node<R: Region>(
     region: &R,

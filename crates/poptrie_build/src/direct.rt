@@ -16,7 +16,7 @@ use crate::node::Node;
 use buddy_arena::{Arena, put, take_places};
 use fib_addr::Region;
 
-/// Sets the direct words of a region's slots, of `depth` more bits, and builds their nodes; false where a block is refused. What
+/// Sets the direct words of a region's slots, of `depth` more bits, and builds their nodes; false if a block is refused. What
 /// was out keeps what it holds.
 pub(crate) fn fill_words<R: Region>(
     region: &R,
@@ -90,7 +90,7 @@ pub(crate) fn fill_words<R: Region>(
     }
 }
 
-/// The place of a new node that stands for the region; nothing where a block is refused.
+/// The place of a new node that stands for the region; nothing if a block is refused.
 fn node_word<R: Region>(region: &R, nodes: &mut Arena<Node>, leaves: &mut Arena<u16>) -> Option<u32>
     requires mixed { one_answer (R.bits region.now) (R.answers region.now) ≡ None }
     requires nodes_sized { IsSized nodes.old }

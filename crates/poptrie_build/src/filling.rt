@@ -1,4 +1,4 @@
-//! All direct words of a trie with their nodes, or what they need where that is too much.
+//! All direct words of a trie with their nodes, or what they need if that is too much.
 
 ghost use Rattle.std.specs.Prelude.{◌≡◌, ℕ, ◌+◌, ◌-◌, ◌*◌, ◌^◌, ◌≤◌, OnOk, IfErr, OnErr, length, replicate};
 ghost use Rattle.buddy_arena.specs.Space.{IsSized, empty};
@@ -49,7 +49,7 @@ pub fn clear_all(words: &mut [u32], nodes: &mut Arena<Node>, leaves: &mut Arena<
     leaves.clear();
 }
 
-/// Builds the trie of a region anew, in arenas that are cleared first; where it is refused, all is cleared. It is `Trie::fill` for
+/// Builds the trie of a region anew, in arenas that are cleared first; if it is refused, all is cleared. It is `Trie::fill` for
 /// those who keep a trie's parts themselves.
 ///
 /// # Errors

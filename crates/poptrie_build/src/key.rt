@@ -1,4 +1,4 @@
-//! The bits of an address in a number of its family's width, of which a look-up takes the first ones, and then six at a time.
+//! The bits of an address in a number of its family's width, of which a lookup takes the first ones, and then six at a time.
 
 ghost use Rattle.std.specs.Prelude.{◌≡◌, ℕ, ◌-◌, ◌*◌, ◌/◌, ◌%◌, ◌^◌, ◌<◌};
 ghost use Rattle.poptrie_build.specs.Keys.{widened, widened_fits};
@@ -17,7 +17,7 @@ pub(crate) trait Key: Copy {
         ensures bits { result ≡ wide self / 2 ^ 122 }
         ensures few { result < 64 };
 
-    /// The bits behind its first ones.
+    /// The bits after its first ones.
     fn rest(self, count: u8) -> Self
         requires { count < 32 }
         ensures { wide result ≡ wide self * 2 ^ count % 2 ^ 128 };

@@ -6,7 +6,7 @@
 //! marks where a run of equal leaves begins, of which each is one leaf. So a slot's node or leaf is found by counting bits.
 //! Arrays of nodes and of leaves lie in buddy arenas, each block with one parent.
 //!
-//! The trie is canonical: a region has a node exactly where two of its addresses get different hops. A node takes 24 octets, a
+//! The trie is canonical: a region has a node exactly if two of its addresses get different hops. A node takes 24 octets, a
 //! leaf 2.
 #![tactic(auto)]
 

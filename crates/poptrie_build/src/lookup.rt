@@ -18,7 +18,7 @@ use std::sync::ledger::Ledger;
 /// An answer, and how many nodes were visited for it.
 #[derive(Clone, Copy, Debug, PartialEq, Eq)]
 pub struct Found {
-    /// The hop, `Hop::NONE` where there is none.
+    /// The hop, `Hop::NONE` if there is none.
     pub hop: Hop,
     /// The nodes.
     pub visits: u8,

@@ -60,7 +60,7 @@ fn with_slot(so_far: Partial, slot: u8, kind: Option<u16>) -> Partial
     }
 }
 
-/// The canonical vectors of a node whose slots are these: the hop of a leaf, or nothing where the slot has a node.
+/// The canonical vectors of a node whose slots are these: the hop of a leaf, or nothing if the slot has a node.
 pub fn make_vectors(kinds: &[Option<u16>]) -> Vectors
     requires { length kinds.now ≡ 64 }
     ensures canonical { IsCanonical result.vector result.leafvec (slot_kind kinds.now) }

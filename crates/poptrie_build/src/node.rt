@@ -2,7 +2,7 @@
 ghost use Rattle.std.specs.Prelude.{◌≡◌, ◌+◌, ◌<◌};
 ghost use Rattle.poptrie_build.specs.Bits.{rank_of};
 
-/// A slot is a node where its bit of `vector` is set, else a leaf.
+/// A slot is a node if its bit of `vector` is set, else a leaf.
 #[derive(Clone, Copy)]
 pub struct Node {
     pub vector: u64,

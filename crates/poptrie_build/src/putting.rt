@@ -7,7 +7,7 @@ ghost use Rattle.poptrie_build.specs.Put.{PutsAll};
 
 use buddy_arena::{Arena, put};
 
-/// Writes the first so many hops to places side by side from this one on.
+/// Writes the first `count` hops to places side by side from this one on.
 pub(crate) fn put_leaves(leaves: &mut Arena<u16>, base: u32, hops: &[u16], count: u32)
     requires few { count ≤ length hops.now }
     requires within { base + count ≤ length leaves.old.cells }

@@ -7,7 +7,7 @@ ghost use Rattle.poptrie_build.specs.Slots.{AreSlots};
 
 use fib_addr::Region;
 
-/// The one hop of each part of a region that `depth` more bits tell apart, or nothing where it has none.
+/// The one hop of each part of a region that `depth` more bits tell apart, or nothing if it has none.
 pub fn ask<R: Region>(region: &R, depth: u8, slots: &mut [Option<u16>])
     requires many { length slots.old ≡ 2 ^ depth }
     requires few { depth ≤ 6 }

@@ -39,7 +39,7 @@ impl Model for Trie {
 ///
 /// # Errors
 ///
-/// No memory.
+/// Out of memory.
 #[tactic(auto, using(crate::proofs::Filled::slots_are))]
 pub fn empty_words(alloc: Global, direct_bits: u8) -> Result<Vec<u32>, AllocError>
     requires { direct_bits ≤ 18 }
@@ -63,7 +63,7 @@ impl Trie {
     ///
     /// # Errors
     ///
-    /// No memory.
+    /// Out of memory.
     pub fn new(
         alloc: Global,
         family: Family,
@@ -110,7 +110,7 @@ impl Trie {
         self.fill(&PrefixRegion::whole(table))
     }
 
-    /// Builds the trie of a table anew, of which it is handed the region of all addresses: a structure that keeps its place
+    /// Builds the trie of a table anew, of which it gets the region of all addresses: a structure that keeps its place
     /// answers each half at a step's cost.
     ///
     /// # Errors

@@ -4,7 +4,7 @@ use Rattle.poptrie_build.specs.Stands.{blank}
 use Rattle.poptrie_set.specs.Rooms.{Room, safe}
 use Rattle.poptrie_set.specs.Lives.{Seen}
 
--- in one arena, with so many stores of the update made before and after: the places that a lookup of this start may read stay so, and hold
+-- in one arena, with `made` stores of the update made before and `made2` after: the places that a lookup of this start may read stay so, and hold
 -- what they held
 abbrev pub KeepsSafe : {T : Type 0} → T → ℕ → Room T → ℕ → Room T → ℕ → Type 0
 KeepsSafe e t old made new made2 = (i : ℕ) → safe old made t i ≡ true → (safe new made2 t i ≡ true) × (slice_index_or new.space.cells i e ≡ slice_index_or old.space.cells i e)

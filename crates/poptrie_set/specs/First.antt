@@ -15,7 +15,7 @@ use Rattle.poptrie_set.specs.declared.reading.At.TheVariants as at
 abbrev pub slot_of : ℕ → Addr → ℕ
 slot_of s a = value_of (take s (addr_as a).bits)
 
--- the entries that are published to an address: those after the update where a store that was made covers its slot
+-- the entries that are published to an address: those after the update if a store that was made covers its slot
 abbrev pub published_in : Seen → Entries → Entries → Addr → Entries
 published_in l L M a = cond (stores_cover (take l.made l.stores) (slot_of l.direct_bits a)) M L
 

@@ -28,7 +28,7 @@ abbrev pub IsOldestOf : Oldest → List Reader → Type 0
 IsOldestOf oldest.Nobody os = os ≡ []
 IsOldestOf (oldest.Started cursor since) os = AllByRecursion (λ (o : Reader). since ≤ o.since) os
 
--- the time up to which retired blocks are given back: all ends so far where nobody reads
+-- the time up to which retired blocks are given back: all ends so far if nobody reads
 abbrev pub until : Oldest → ℕ → ℕ
 until oldest.Nobody time = time
 until (oldest.Started cursor since) time = since

@@ -57,7 +57,7 @@ pub record Beside (l : Seen) (L M : Entries) (old new : List ℕ) : Type 0 where
   pub shared : (v : ℕ) → v < 2 ^ l.direct_bits → stores_cover l.stores v ≡ false → slice_index old v ≡ slice_index new v
   pub due : AllByRecursion (λ (s : Store). (s.0 < 2 ^ l.direct_bits) × (slice_index new s.0 ≡ s.1)) l.stores
 
--- the direct words stand for the first entries where no store that was made covers the slot, and else for the second
+-- the direct words stand for the first entries if no store that was made covers the slot, and else for the second
 abbrev pub ShowsIn : Seen → Entries → Entries → Type 0
 ShowsIn l L M = (old : List ℕ) × (new : List ℕ) × Beside l L M old new
 
@@ -115,7 +115,7 @@ pub record IsLive (direct_bits : ℕ) (words : List ℕ) (nodes : Space Node) (l
 abbrev pub IsTokenIn : Pending → Seen → Type 0
 IsTokenIn p l = (l.pending ≡ true) × (p.made ≡ l.made)
 
--- the refusal of entries for which its arenas are too small: it names the nodes where their need is more than their places, else the
+-- the refusal of entries for which its arenas are too small: it names the nodes if their need is more than their places, else the
 -- leaves
 abbrev pub IsTooMuchFor : Seen → Entries → TrieFull → Type 0
 IsTooMuchFor l L e = IsTooMuch e.arena e.need e.have (node_need l.family l.direct_bits L) (leaf_need l.family l.direct_bits L) (2 ^ l.nodes.space.order) (2 ^ l.leaves.space.order)

@@ -25,7 +25,7 @@ child_index n v = n.base1 + rank_of n.vector (v + 1) - 1
 abbrev pub leaf_index : Node → ℕ → ℕ
 leaf_index n v = n.base0 + rank_of n.leafvec (v + 1) - 1
 
--- the first where the bit is set
+-- the first if the bit is set
 abbrev pub ByBit : ℕ → Type 0 → Type 0 → Type 0
 ByBit zero P Q = Q
 ByBit (suc b) P Q = P

@@ -22,7 +22,7 @@ merged p s f h u = cond (begins (take s p) (bits_of s u)) (part (bits_of s u) f)
 abbrev pub IsSpliced : List Bool → (s d : ℕ) → (List Bool → ℕ) → (ℕ → List Bool → ℕ) → (List Bool → ℕ) → Type 0
 IsSpliced p s d f h g = (u : ℕ) → u < 2 ^ s → SameAnswers d (part (bits_of s u) g) (merged p s f h u)
 
--- where the words stood for h, they stand for these answers: what they led to alone is put aside, whatever else is out stays apart, and
+-- if the words stood for h, they stand for these answers: what they led to alone is put aside, whatever else is out stays apart, and
 -- no place is lost
 abbrev pub Rebuilds : Space Node → Held → Space ℕ → Held → (ℕ → ℕ) → Space Node → Held → Space ℕ → Held → (ℕ → ℕ) → List Bool → (s d : ℕ) → (List Bool → ℕ) → Type 0
 Rebuilds nodes nb leaves lb words nodes2 nb2 leaves2 lb2 words2 p s d f =

@@ -4,8 +4,8 @@
 //! between any two of these steps goes on in the version that it began with. What an update replaced is retired at its end, and is
 //! given back once no lookup is open that started before that end. Time is the number of ends so far.
 //!
-//! An update is made ready beside the old version in the same arenas alone: where it fits into them but not beside what is in use, it
-//! is refused. `poptrie_update` has two of these sets for that.
+//! An update is made ready beside the old version in the same arenas alone: if it fits into them but not beside what is in use,
+//! it is refused. `poptrie_update` has two of these sets for that.
 #![tactic(auto)]
 
 mod crowd_laws;

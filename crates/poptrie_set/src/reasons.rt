@@ -14,7 +14,7 @@ use thiserror::Error;
 /// Why an update isn't made ready.
 #[derive(Clone, Copy, Debug, PartialEq, Eq, Error)]
 pub enum NotReady {
-    /// No memory for the lists of stores and blocks.
+    /// Out of memory for the lists of stores and blocks.
     #[error("no memory")]
     Memory,
     /// The new table's trie needs more places than an arena has.
@@ -28,7 +28,7 @@ pub enum NotReady {
     LeavesOut(Full),
 }
 
-/// Why the trie of a region is not made beside another one, where a block or memory was refused.
+/// Why the trie of a region is not made beside another one, if a block or memory was refused.
 pub(crate) fn reason<R: Region>(
     region: &R,
     direct_bits: u8,

@@ -39,7 +39,7 @@ fn part_of<R: Region>(region: &R, number: u32, depth: u8) -> R
 ///
 /// # Errors
 ///
-/// No memory, or a block is refused. What was taken is listed, and what was to be replaced too.
+/// Out of memory, or a block is refused. What was taken is listed, and what was to be replaced too.
 fn rebuild<R: Region>(
     region: &R,
     prefix: &Prefix,
@@ -103,7 +103,7 @@ fn rebuild<R: Region>(
 ///
 /// # Errors
 ///
-/// No memory, or a block is refused. What was taken is given back, and nothing is listed.
+/// Out of memory, or a block is refused. What was taken is given back, and nothing is listed.
 pub(crate) fn rebuild_or_undo<R: Region>(
     region: &R,
     prefix: &Prefix,

@@ -37,7 +37,7 @@ pub struct Pending {
     pub(crate) made: usize,
 }
 
-/// A trie with what its pending update has ready. Its direct words stand for the table after the update where a store that was
+/// A trie with what its pending update has ready. Its direct words stand for the table after the update if a store that was
 /// made covers the slot, and else for the table before it.
 #[derive(Drop)]
 pub struct TrieSet {
@@ -116,7 +116,7 @@ impl TrieSet {
     ///
     /// # Errors
     ///
-    /// No memory.
+    /// Out of memory.
     pub fn new(
         alloc: Global,
         family: Family,
@@ -175,7 +175,7 @@ impl TrieSet {
         self.fill(&PrefixRegion::whole(table))
     }
 
-    /// Builds the trie of a table anew, of which it is handed the region of all addresses: a structure that keeps its place
+    /// Builds the trie of a table anew, of which it gets the region of all addresses: a structure that keeps its place
     /// answers each half at a step's cost.
     ///
     /// # Errors
@@ -249,7 +249,8 @@ impl TrieSet {
     ///
     /// # Errors
     ///
-    /// No memory, or the new table's trie is larger than the arenas, or it would fit, but not beside what is in use. All is as it was.
+    /// Out of memory, or the new table's trie is larger than the arenas, or it would fit, but not beside what is in use. All is
+    /// as it was.
     pub fn prepare<R: Region>(&mut self, region: &R, prefix: &Prefix) -> Result<Pending, NotReady>
         requires family { prefix.now.family ≡ self.old.family }
         requires bits { R.bits region.now ≡ width self.old.family }
@@ -398,7 +399,7 @@ impl TrieSet {
         self.arenas.leaf_blocks.retired_law();
     }
 
-    /// Makes the next store of the pending update; false where none is left.
+    /// Makes the next store of the pending update; false if none is left.
     pub fn store(&mut self, pending: &mut Pending) -> bool
         requires { IsTokenIn pending.old self.old }
         ensures token { IsTokenIn pending.new self.new }
@@ -427,7 +428,7 @@ impl TrieSet {
     ///
     /// # Errors
     ///
-    /// Stores are left: the token is handed back, and nothing has changed.
+    /// Stores are left: the token is returned, and nothing has changed.
     pub fn end(&mut self, pending: Pending) -> Result<(), Pending>
         requires token { IsTokenIn pending self.old }
         requires time { self.old.time < 18446744073709551615 }
@@ -500,7 +501,7 @@ impl TrieSet {
     ///
     /// # Errors
     ///
-    /// A store was made: the token is handed back, and nothing has changed.
+    /// A store was made: the token is returned, and nothing has changed.
     pub fn cancel(&mut self, pending: Pending) -> Result<(), Pending>
         requires { IsTokenIn pending self.old }
         ensures made { IfErr result (λ p. (p ≡ pending) × (self.new ≡ self.old)

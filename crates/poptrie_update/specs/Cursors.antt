@@ -29,7 +29,7 @@ pub record Due : Type 0 where
   pub answer : ℕ
   pub left : ℕ
 
--- of a lookup whose first go was just made, where these entries are published to its address: all the visits of its way are left
+-- of a lookup whose first go was just made, if these entries are published to its address: all the visits of its way are left
 abbrev pub due_of : ℕ → Entries → Addr → Due
 due_of s E a = record { answer = match_in E (addr_as a); left = visits_of s E (addr_as a) }
 
@@ -102,7 +102,7 @@ IsFull cs = (n : ℕ) → n < 64 → lookup_of cs n ≡ None → ⊥
 abbrev pub GoesOn : OpenLookups → OpenLookups → ℕ → Type 0
 GoesOn old new n = (k : Lookup) × (lookup_of old n ≡ Some k) × ((i : ℕ) × (set : ℕ) × (t : ℕ) × (new ≡ slice_set old n (Some (record { addr = k.addr; since = k.since; stage = stage.Node i set t }))))
 
--- a go after which this is due: where no node is left to be visited it gives the answer, and the lookup is closed; else it leads on
+-- a go after which this is due: if no node is left to be visited it gives the answer, and the lookup is closed; else it leads on
 -- to a node, from which the lookup goes on as it is due
 abbrev pub GoesAsDue : Option Hop → Due → ℕ → Living → OpenLookups → OpenLookups → Dues → Type 0
 GoesAsDue (Some h) d n l old new due = (d.left ≡ 0) × (h.0 ≡ d.answer) × (new ≡ slice_set old n None) × FitsAll l new due

@@ -27,7 +27,7 @@ ReadsOther (other.Retired end) o r = (r.since < end) × ReadsOut o r
 ReadsOther other.Built o r = ⊥
 ReadsOther other.Replaced o r = ReadsOut o r
 
--- the first where it is so
+-- the first if it is so
 abbrev pub ByTruth : Bool → Type 0 → Type 0 → Type 0
 ByTruth true P Q = P
 ByTruth false P Q = Q

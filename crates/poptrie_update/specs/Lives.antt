@@ -83,7 +83,7 @@ retired_at_end time other.Replaced = other.Retired time
 
 -- ---- what it shows
 -- Of the first entries those before the pending update, and of the second those after it: in the selected set, word by word; or,
--- where the selector is to be stored, the selected set shows the first and the other the second; or, where it was, the selected set
+-- if the selector is to be stored, the selected set shows the first and the other the second; or, if it was, the selected set
 -- the second
 abbrev pub ShowsBy : Other → Seen → Seen → Entries → Entries → Type 0
 ShowsBy other.Free s o L M = ShowsIn s L M
@@ -116,7 +116,7 @@ PastTables l Ls = Past l (map (λ (L : Entries). node_need l.selected.family l.s
 abbrev pub HasNoneRetired : Seen → Type 0
 HasNoneRetired s = (s.nodes.retired ≡ []) × (s.leaves.retired ≡ [])
 
--- what the other set holds: where it is free, no block of it is out; a whole set is retired at an end that is over; where the
+-- what the other set holds: if it is free, no block of it is out; a whole set is retired at an end that is over; if the
 -- selector is to be stored or was, nothing is pending in the selected set
 abbrev pub Holds : Other → Seen → Seen → Type 0
 Holds other.Free s o = ShowsIn o [] [] × HasNoneRetired o

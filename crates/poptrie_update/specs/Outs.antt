@@ -1,4 +1,4 @@
--- The blocks that are out where nothing is retired.
+-- The blocks that are out if nothing is retired.
 use Rattle.std.specs.Prelude.{◌≡◌, ◌+◌, ◌^◌, []}
 use Rattle.table_model.specs.Entries.{Entries}
 use Rattle.buddy_arena.specs.Places.{count_free}

@@ -45,7 +45,7 @@ IsRetiredAfter since (other.Retired end) = since < end
 IsRetiredAfter since other.Built = ⊥
 IsRetiredAfter since other.Replaced = ⊥
 
--- as it is where nothing is pending: no block was taken for an update, and the end at which the other set was retired is over
+-- as it is if nothing is pending: no block was taken for an update, and the end at which the other set was retired is over
 pub record IsAtRest (l : Living) : Type 0 where
   pub nodes : l.selected.nodes.taken ≡ []
   pub leaves : l.selected.leaves.taken ≡ []
@@ -62,7 +62,7 @@ pub record RunsShort (s : Seen) (L M : Entries) (nodes : Space Node) (leaves : S
   pub leaves_fit : leaf_need s.family s.direct_bits M ≤ 2 ^ leaves.order
   pub refused : RunsOut nodes.order leaves.order (asks_of s.family s.direct_bits L M) (nodes.free, leaves.free) first
 
--- words are stored where each ask is met in its turn, and the selector where one is refused and the other set is free
+-- words are stored if each ask is met in its turn, and the selector if one is refused and the other set is free
 abbrev pub IsMadeIn : ℕ → Stores → Living → Living → Entries → Entries → Space Node → Space ℕ → Type 0
 IsMadeIn since (stores.Words w) old new L M nodes leaves = (new.state ≡ freed since old.state) × MeetsInTurn nodes.order leaves.order (asks_of old.selected.family old.selected.direct_bits L M) (nodes.free, leaves.free) (new.selected.nodes.space.free, new.selected.leaves.space.free)
 IsMadeIn since (stores.Selector stored) old new L M nodes leaves = IsFreeBy since old.state × ((first : Refusal) × RunsShort old.selected L M nodes leaves first)
@@ -77,7 +77,7 @@ refusal_in zero e = refusal.Nodes e
 refusal_in (suc n) e = refusal.Leaves e
 
 -- the lookup started first, before the end at which the other set was retired; and once what was retired by its start was given
--- back, the set runs short of a block of this arena and of so many places, of which the greatest that is free has this order
+-- back, the set runs short of a block of this arena and of n places, of which the greatest that is free has this order
 abbrev pub IsPinned : Oldest → Living → Entries → Entries → (need cursor arena : ℕ) → Full → Type 0
 IsPinned who old L M need cursor arena e =
     (since : ℕ)

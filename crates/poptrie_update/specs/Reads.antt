@@ -24,7 +24,7 @@ covers_by (other.Retired end) s v = stores_cover (take s.made s.stores) v
 covers_by other.Built s v = false
 covers_by other.Replaced s v = true
 
--- the entries that are published to an address: those after the update where a store that was made covers its slot
+-- the entries that are published to an address: those after the update if a store that was made covers its slot
 abbrev pub published_entries : Living → Entries → Entries → Addr → Entries
 published_entries l L M a = cond (covers_by l.state l.selected (slot_of l.selected.direct_bits a)) M L
 

@@ -20,7 +20,7 @@ pub record IsGivenBack (since : ℕ) (old new : Living) : Type 0 where
   pub nodes : new.selected.nodes.retired ≡ late since old.selected.nodes.retired
   pub leaves : new.selected.leaves.retired ≡ late since old.selected.leaves.retired
 
--- an update was made ready: words beside what the selected set has, or, where the other set was free, a trie in it that is to be selected
+-- an update was made ready: words beside what the selected set has, or, if the other set was free, a trie in it that is to be selected
 abbrev pub IsReadyBy : Other → Living → Living → Type 0
 IsReadyBy other.Free old new = (old.state ≡ other.Free) × (new.other ≡ old.other) × IsReadyFrom old.selected new.selected
 IsReadyBy (other.Retired end) old new = (old.state ≡ other.Retired end) × (new.other ≡ old.other) × IsReadyFrom old.selected new.selected

@@ -109,7 +109,7 @@ impl Cursors {
     ///
     /// # Errors
     ///
-    /// No memory.
+    /// Out of memory.
     pub fn new(alloc: Global) -> Result<Cursors, AllocError>
         ensures none { IfOk result (λ c. c ≡ replicate 64 None) }
         ensures fits { IfOk result (λ c. (l : Living) (due : Dues) → FitsAll l c due) }
@@ -119,7 +119,7 @@ impl Cursors {
         Ok(Cursors { lookups })
     }
 
-    /// Opens a lookup of an address, and tells its number: the least that isn't open.
+    /// Opens a lookup of an address, and returns its number: the least that isn't open.
     ///
     /// # Errors
     ///
@@ -142,8 +142,8 @@ impl Cursors {
         Ok(number as u8)
     }
 
-    /// The next read of an open lookup: first the selector and the direct word of its address, then a node each time. It answers
-    /// where that is a leaf, and then the lookup is closed.
+    /// The next read of an open lookup: first the selector and the direct word of its address, then a node each time. It returns
+    /// the answer if that is a leaf, and then the lookup is closed.
     ///
     /// # Errors
     ///
@@ -169,7 +169,7 @@ impl Cursors {
         Ok(self.go_on(number, lookup, at))
     }
 
-    /// What becomes of an open lookup that read this: it is closed where that is the answer, else it goes on from there.
+    /// What becomes of an open lookup that read this: it is closed if that is the answer, else it goes on from there.
     fn go_on(&mut self, number: u8, lookup: Lookup, at: At) -> Option<Hop>
         requires { lookup_of self.old number ≡ Some lookup }
         ensures { Moves result at lookup number self.old self.new }

@@ -15,20 +15,20 @@ pub fn step_law()
         → FitsAll old cs due → FitsAll new cs due }
 {}
 
-/// So does `Live::prepare`, Ok or not, that is handed the oldest of the open lookups.
+/// So does `Live::prepare`, Ok or not, that gets the oldest of the open lookups.
 pub fn prepare_law()
     ensures { (first : Oldest) (old new : Living) (cs : OpenLookups) (due : Dues) → IsFirst first cs
         → KeepsReadsSince first old new → FitsAll old cs due → FitsAll new cs due }
 {}
 
-/// Where no lookup is open, nothing is due: in any trie, and so after `Live::build` and `Live::fill`.
+/// If no lookup is open, nothing is due: in any trie, and so after `Live::build` and `Live::fill`.
 pub fn nobody_law()
     ensures { (l : Living) (cs : OpenLookups) (due : Dues) → IsFirst Oldest.Nobody cs
         → FitsAll l cs due }
 {}
 
-/// The needs that `Past` is handed are those of the tables before each end. `Live::new` begins with none; `Live::end` adds the table that
-/// was shown before it; each other call keeps the tables, as it keeps the needs whatever they are.
+/// The needs that `Past` gets are those of the tables before each end. `Live::new` begins with none; `Live::end` adds the table
+/// that was shown before it; each other call keeps the tables, as it keeps the needs whatever they are.
 pub fn past_law()
     ensures none { (l : Living) → Past l [] [] → PastTables l [] }
     ensures ended { (old new : Living) (L : Entries) → HasShapeOf old new

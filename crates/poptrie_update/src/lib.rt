@@ -1,7 +1,7 @@
 //! A Poptrie that is changed beside its readers (Asai and Ohara, 'Poptrie', SIGCOMM 2015), in two sets.
 //!
 //! A set is a trie's direct words with both its arenas (`poptrie_set`). Lookups begin in the set that the selector names. An update
-//! is made in that set beside the old version, and stored word by word; where it would fit into the set but not beside what is in
+//! is made in that set beside the old version, and stored word by word; if it would fit into the set but not beside what is in
 //! use, the new table's trie is built in the other set, and one store selects that. At such an update's end the set that was
 //! replaced is retired whole, and is free once no lookup is open that started before that end.
 //!

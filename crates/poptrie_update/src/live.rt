@@ -116,7 +116,7 @@ impl Live {
     ///
     /// # Errors
     ///
-    /// No memory.
+    /// Out of memory.
     pub fn new(
         alloc: Global,
         family: Family,
@@ -167,7 +167,7 @@ impl Live {
         self.fill(&PrefixRegion::whole(table))
     }
 
-    /// Builds the trie of a table anew, of which it is handed the region of all addresses: a structure that keeps its place
+    /// Builds the trie of a table anew, of which it gets the region of all addresses: a structure that keeps its place
     /// answers each half at a step's cost.
     ///
     /// # Errors
@@ -193,7 +193,7 @@ impl Live {
     }
 
     /// Gives back what no open lookup may be in: what was retired at an end that was over when the oldest of them started, and the
-    /// other set whole where it was.
+    /// other set whole if it was.
     fn give_back(&mut self, oldest: Oldest)
         requires { is_pending self.old ≡ false }
         ensures shape { HasShapeOf self.old self.new }
@@ -230,14 +230,14 @@ impl Live {
     }
 
     /// Makes an update ready that changes the answers of a prefix's addresses at most, for the region of all addresses of the new
-    /// table: first gives back what no open lookup may be in; then makes what has other answers anew beside the old, or, where that
+    /// table: first gives back what no open lookup may be in; then makes what has other answers anew beside the old, or, if that
     /// doesn't fit beside what is in use, all in the other set. Nothing that a lookup reads is written, so the answers stay until
     /// the stores are made.
     ///
     /// # Errors
     ///
-    /// No memory; or the new table's trie is larger than the arenas; or it would fit, but not beside what is in use, while the
-    /// oldest lookup may be in the other set. But for what was given back, all is as it was.
+    /// Out of memory; or the new table's trie is larger than the arenas; or it would fit, but not beside what is in use, while
+    /// the oldest lookup may be in the other set. But for what was given back, all is as it was.
     pub fn prepare<R: Region>(
         &mut self,
         region: &R,
@@ -355,7 +355,7 @@ impl Live {
         }
     }
 
-    /// Builds the new table's trie in the other set where that is free, as it fits, but not beside what is in use in the selected
+    /// Builds the new table's trie in the other set if that is free, as it fits, but not beside what is in use in the selected
     /// one.
     ///
     /// # Errors
@@ -495,7 +495,7 @@ impl Live {
         self.other.arenas_law();
     }
 
-    /// Makes the next store of the pending update; false where none is left.
+    /// Makes the next store of the pending update; false if none is left.
     pub fn store(&mut self, pending: &mut Pending) -> bool
         requires { IsTokenOf pending.old self.old }
         ensures token { IsTokenOf pending.new self.new }
@@ -530,7 +530,7 @@ impl Live {
     ///
     /// # Errors
     ///
-    /// Stores are left: the token is handed back, and nothing has changed.
+    /// Stores are left: the token is returned, and nothing has changed.
     pub fn end(&mut self, pending: Pending) -> Result<(), Pending>
         requires token { IsTokenOf pending self.old }
         requires time { self.old.selected.time < 18446744073709551615 }
@@ -582,7 +582,7 @@ impl Live {
     ///
     /// # Errors
     ///
-    /// A store was made: the token is handed back, and nothing has changed.
+    /// A store was made: the token is returned, and nothing has changed.
     pub fn cancel(&mut self, pending: Pending) -> Result<(), Pending>
         requires { IsTokenOf pending self.old }
         ensures made { IfErr result (λ p. (p ≡ pending) × (self.new ≡ self.old)

@@ -38,7 +38,7 @@ impl Pending {
 /// Why an update isn't made ready.
 #[derive(Clone, Copy, Debug, PartialEq, Eq, Error)]
 pub enum NotReady {
-    /// No memory for the lists of stores and blocks.
+    /// Out of memory for the lists of stores and blocks.
     #[error("no memory")]
     Memory,
     /// The new table's trie needs more places than an arena has.

@@ -24,7 +24,7 @@ kind_entries kind before rows = record {
   hops = kind_hops kind before rows;
 }
 
--- The entries that a text's rows of this kind say, where these hops have numbers before; or the text's first bad line. The hops of other
+-- The entries that a text's rows of this kind say, if these hops have numbers before; or the text's first bad line. The hops of other
 -- rows get no number, so there are never too many of them.
 abbrev pub kind_in : Kind → List Address → List ℕ → Result KindEntries BadLine
 kind_in kind before text = rows_by (kind_hops kind before) text >>= λ rows. Ok (kind_entries kind before rows)

@@ -11,7 +11,7 @@ use Rattle.printed_text.specs.Used.{Used}
 
 -- ---- the row of an item, with the address of its hop; a number that no hop has is no hop
 
--- a route; where it has no hop, it has no row
+-- a route; if it has no hop, it has no row
 abbrev pub route_row_by : Prefix → Option Address → List PrintedRow
 route_row_by p None = []
 route_row_by p (Some a) = route_row p a ∷ []

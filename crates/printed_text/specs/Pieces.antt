@@ -44,7 +44,7 @@ abbrev pub TextStands : List ℕ → TextReader → Type 0
 TextStands fed (text.Reading reader) = PrintedStands fed reader
 TextStands fed (text.Refused bad) = BreaksAtLine fed bad
 
--- the same of a text; behind a bad line none is counted
+-- the same of a text; after a bad line none is counted
 abbrev pub most_lines : TextReader → ℕ
 most_lines (text.Reading reader) = most_lines_read reader
 most_lines (text.Refused bad) = 0

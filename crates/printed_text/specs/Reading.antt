@@ -50,7 +50,7 @@ prefix_field text = or_why bad_prefix (prefix_in text)
 abbrev pub number_field : List ℕ → Result ℕ ℕ
 number_field text = or_why bad_number (number_below (2 ^ 64) text)
 
--- an address, or no hop where the field is this word
+-- an address, or no hop if the field is this word
 unfoldable pub hop_field : List ℕ → List ℕ → Result (Option Address) ℕ
 hop_field word text = if bytes_eq text word then Ok None else (address_field text >>= λ a. Ok (Some a))
 
@@ -73,7 +73,7 @@ count_field text =
 unfoldable pub family_field : List ℕ → Result Family ℕ
 family_field text = if bytes_eq text (codes "4") then Ok V4 else if bytes_eq text (codes "6") then Ok V6 else Err bad_word
 
--- ---- so many fields, and no more
+-- ---- n fields, and no more
 
 abbrev pub one_field : List (List ℕ) → Result (List ℕ) ℕ
 one_field (x ∷ []) = Ok x
@@ -86,7 +86,7 @@ two_fields [] = Err bad_count
 two_fields (x ∷ []) = Err bad_count
 two_fields (x ∷ y ∷ z ∷ more) = Err bad_count
 
--- the field that decides how many follow, and those; where the line ends before it, fields are missing
+-- the field that decides how many follow, and those; if the line ends before it, fields are missing
 abbrev pub next_field : List (List ℕ) → Result (List ℕ × List (List ℕ)) ℕ
 next_field [] = Err bad_count
 next_field (x ∷ more) = Ok (x, more)
@@ -122,7 +122,7 @@ vrp_fields fields = do
 
 -- ---- one row, of the fields after the words that name it
 
--- PREFIX,HOP, where this word is no hop
+-- PREFIX,HOP, if this word is no hop
 unfoldable pub entry_in : List ℕ → List (List ℕ) → Result (Prefix × Option Address) ℕ
 entry_in word fields = do
   f ← two_fields fields

@@ -25,14 +25,14 @@ pub record Announced : Type 0 where
   pub peer_as : ℕ
   pub origin : Option ℕ
 
--- A validated ROA payload (RFC 6811, 2): the AS may announce the prefix, and prefixes within it of at most so many bits.
+-- A validated ROA payload (RFC 6811, 2): the AS may announce the prefix, and prefixes within it of at most n bits.
 pub record Vrp : Type 0 where
   pub prefix : Prefix
   pub maxlen : ℕ
   pub asn : ℕ
 
 -- A printed row: a chosen route; an announcement that is Invalid (RFC 6811, 2), with a VRP that covers it; what the event of a number adds
--- to the table, replaces in it or removes from it, and how many changes that event needed; the hop of an address, and how many nodes its look-up visits; an entry of the kept
+-- to the table, replaces in it or removes from it, and how many changes that event needed; the hop of an address, and how many nodes its lookup visits; an entry of the kept
 -- table, and of a least one; what a certificate says of a region with one hop, of one put together from its halves, and of a whole
 -- family; and a count. A hop is an address, or none.
 pub data PrintedRow : Type 0 where

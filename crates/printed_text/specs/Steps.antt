@@ -32,7 +32,7 @@ used_after u row = record {
   hops = hops_after_row u.hops row;
 }
 
--- what taking a hop returned: there is one too many, or no memory, or what P says
+-- what taking a hop returned: there is one too many, or out of memory, or what P says
 abbrev pub Numbers : {A : Type 0} → Result A HopError → List Address → (A → Type 0) → Type 0
 Numbers (Ok x) hops P = P x × (length hops ≤ most_hops)
 Numbers (Err hop_error.HopsFull) hops P = most_hops < length hops
@@ -49,7 +49,7 @@ abbrev pub IsHopRefused : ℕ → HopError → PrintedError → Type 0
 IsHopRefused number hop_error.HopsFull e = e ≡ error.BadRow (record { line = number; why = too_many_hops })
 IsHopRefused number hop_error.NoMemory e = e ≡ error.NoMemory
 
--- ---- a line, where `after` says what a row makes of what was read, and `hops` which hops have numbers then
+-- ---- a line, if `after` says what a row makes of what was read, and `hops` which hops have numbers then
 
 -- why a line is bad that has this row, or that has none for this reason
 abbrev pub Refused : {U : Type 0} → (U → PrintedRow → U) → (U → List Address) → ℕ → U → Result PrintedRow ℕ → Type 0
@@ -67,9 +67,9 @@ TakesLine after hops (Ok x) old new number read = Taken after hops old new read
 TakesLine after hops (Err (error.BadRow bad)) old new number read = (bad.line ≡ number) × Refused after hops bad.why old read
 TakesLine after hops (Err error.NoMemory) old new number read = Unit {0}
 
--- ---- lines, behind others
+-- ---- lines, after others
 
--- What taking lines returned, behind n others with these rows: all rows are kept, and the lines are counted; or the first bad line.
+-- What taking lines returned, after n others with these rows: all rows are kept, and the lines are counted; or the first bad line.
 abbrev pub TakesLines : Result ℕ PrintedError → List PrintedRow → ℕ → List (List ℕ) → Used → Type 0
 TakesLines (Ok m) rows n lines new = (all : List PrintedRow) × (rows_after hops_in rows (n + 1) lines ≡ Ok all) × (new ≡ used_of all) × (m ≡ n + length lines)
 TakesLines (Err (error.BadRow bad)) rows n lines new = rows_after hops_in rows (n + 1) lines ≡ Err (bad_as bad)

@@ -9,12 +9,12 @@ use Rattle.printed_text.specs.Reading.{too_many_hops, line_in}
 
 -- ---- lines
 
--- an octet in front of the first line
+-- an octet before the first line
 abbrev pub in_front : ℕ → List (List ℕ) → List (List ℕ)
 in_front b [] = (b ∷ []) ∷ []
 in_front b (line ∷ lines) = (b ∷ line) ∷ lines
 
--- the lines of a text: each ends with its line feed, and what follows the last line feed is a line where it isn't empty
+-- the lines of a text: each ends with its line feed, and what follows the last line feed is a line if it isn't empty
 unfoldable pub lines_of : List ℕ → List (List ℕ)
 lines_of [] = []
 lines_of (b ∷ text) = if b == 10 then (b ∷ []) ∷ lines_of text else in_front b (lines_of text)
@@ -43,7 +43,7 @@ pub record BadLine : Type 0 where
   pub line : ℕ
   pub why : ℕ
 
--- The rows with one more, which a line of this number has. `hops` tells the hops that have numbers after rows; the line is bad where these
+-- The rows with one more, which a line of this number has. `hops` says the hops that have numbers after rows; the line is bad if these
 -- are more than may have numbers.
 abbrev pub with_row : (List PrintedRow → List Address) → ℕ → List PrintedRow → Result PrintedRow ℕ → Result (List PrintedRow) BadLine
 with_row hops n rows (Err why) = Err (record { line = n; why = why })
@@ -55,10 +55,10 @@ rows_after hops rows n [] = Ok rows
 rows_after hops rows n ([] ∷ lines) = rows_after hops rows (n + 1) lines
 rows_after hops rows n ((b ∷ line) ∷ lines) = with_row hops n rows (line_in (b ∷ line)) >>= λ more. rows_after hops more (n + 1) lines
 
--- the rows of a text, the first line being line 1, where these hops have numbers
+-- the rows of a text, the first line being line 1, if these hops have numbers
 unfoldable pub rows_by : (List PrintedRow → List Address) → List ℕ → Result (List PrintedRow) BadLine
 rows_by hops text = rows_after hops [] 1 (line_texts text)
 
--- the rows of a text, where the hops of routes, of a least table and of leaves have numbers
+-- the rows of a text, if the hops of routes, of a least table and of leaves have numbers
 abbrev pub rows_in : List ℕ → Result (List PrintedRow) BadLine
 rows_in text = rows_by hops_in text

@@ -1,4 +1,4 @@
--- What a printed text is, as a whole: rows on the lines that aren't empty, or a first bad line. `hops` tells the hops that have numbers
+-- What a printed text is, as a whole: rows on the lines that aren't empty, or a first bad line. `hops` says the hops that have numbers
 -- after rows.
 use Rattle.std.specs.Prelude.{◌≡◌, ℕ, ◌+◌, ◌<◌, ◌≤◌, List, [], ◌∷◌, ◌++◌, Bool, true, false, Result, Ok, Err, map, length}
 use Rattle.std.specs.List.{filter}

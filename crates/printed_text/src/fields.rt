@@ -18,7 +18,7 @@ use std::marker::Model;
 /// The fields of a line that are left. Contracts see them as a list.
 #[derive(Drop)]
 pub struct Fields<'a> {
-    // their text; none where no field is left
+    // their text; none if no field is left
     left: Option<&'a [u8]>,
     // the octet between two of them
     mark: u8,
@@ -109,7 +109,7 @@ pub fn is(text: &[u8], word: &[u8]) -> bool
     text == word
 }
 
-/// An address, or no hop where the field is the word.
+/// An address, or no hop if the field is the word.
 #[tactic(auto, unfolding(crate::specs::Reading::hop_field))]
 pub(crate) fn hop_field(word: &[u8], text: &[u8]) -> Result<Option<Addr>, u8>
     ensures { Gives (option_map addr_as) result (hop_field word.now text.now) }
@@ -121,7 +121,7 @@ pub(crate) fn hop_field(word: &[u8], text: &[u8]) -> Result<Option<Addr>, u8>
     Ok(Some(addr))
 }
 
-/// The number of an AS, or none where the field is `none`.
+/// The number of an AS, or none if the field is `none`.
 #[tactic(auto, unfolding(crate::specs::Reading::origin_field))]
 pub(crate) fn origin_field(text: &[u8]) -> Result<Option<u64>, u8>
     ensures { Gives (λ n. n) result (origin_field text.now) }

@@ -69,10 +69,10 @@ fn take_line(
 }
 
 /// The entries of a text's rows of this kind, in the order of their rows; rows of other kinds must be rows, and are dropped. The hops are
-/// numbered behind those that `hops` has, in the order of their first use in these rows. `BadRow` names the first line that is no row,
-/// or whose hop would be the 65,535th in `hops`. Costs the text's length.
+/// numbered after those that `hops` has, in the order of their first use in these rows. `BadRow` names the first line that is no
+/// row, or whose hop would be the 65,535th in `hops`. Costs the text's length.
 ///
-/// After an error some of the hops that came before it are in `hops`, behind those that it had.
+/// After an error some of the hops that came before it are in `hops`, after those that it had.
 #[tactic(auto, using(crate::proofs::LinesTaken::kind_starts))]
 pub fn read_rows(
     alloc: Global,

@@ -82,7 +82,7 @@ impl PrintedReader {
         })
     }
 
-    /// Ends the text: octets behind the last line feed are a line.
+    /// Ends the text: octets after the last line feed are a line.
     fn finish(self) -> Result<Printed, PrintedError>
         ensures { (fed : List ℕ) → PrintedStands fed self → IsRead result (printed_in fed) }
     {
@@ -110,11 +110,11 @@ impl TextReader {
     }
 
     /// Takes the next octets of the text, which has fewer than 2^64 in all, so that its lines can be counted. It costs their number
-    /// and that of the line that hasn't ended. Behind a bad line it takes all octets.
+    /// and that of the line that hasn't ended. After a bad line it takes all octets.
     ///
     /// # Errors
     ///
-    /// No memory.
+    /// Out of memory.
     pub fn feed(self, piece: &[u8]) -> Result<TextReader, AllocError>
         requires { most_lines self + length piece.now < 2 ^ 64 }
         ensures counts { IfOk result (λ next. most_lines next ≤ most_lines self + length piece.now) }
@@ -131,11 +131,11 @@ impl TextReader {
         }
     }
 
-    /// Ends the text, and gives what a checker uses of it.
+    /// Ends the text, and returns what a checker uses of it.
     ///
     /// # Errors
     ///
-    /// The first line that is no row, or whose hop is one too many; no memory.
+    /// The first line that is no row, or whose hop is one too many; or out of memory.
     pub fn finish(self) -> Result<Printed, PrintedError>
         ensures { (fed : List ℕ) → TextStands fed self → IsRead result (printed_in fed) }
     {

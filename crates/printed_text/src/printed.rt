@@ -67,7 +67,7 @@ pub fn hop_refused(number: u64, error: HopError) -> PrintedError
 ///
 /// # Errors
 ///
-/// The hop would be the 65,535th, or no memory.
+/// The hop would be the 65,535th, or out of memory.
 pub fn number_hop(hops: &mut HopTable, hop: Option<Addr>) -> Result<Hop, HopError>
     requires { length hops.old.list ≤ most_hops }
     ensures { Numbers result (hops_with hops.old.list (option_map addr_as hop))
@@ -80,7 +80,7 @@ pub fn number_hop(hops: &mut HopTable, hop: Option<Addr>) -> Result<Hop, HopErro
     }
 }
 
-/// Keeps a row of the certificate, behind the others.
+/// Keeps a row of the certificate, after the others.
 fn keep_row(rows: &mut CertRows, row: &Row) -> Result<(), HopError>
     ensures kept { OnOk result (rows.new ≡ rows.old ++ row_as row.now ∷ []) }
     ensures none { IfErr result (λ e. e ≡ HopError.NoMemory) }
@@ -146,11 +146,11 @@ impl Printed {
         }
     }
 
-    /// Takes the rows of a text's lines, behind so many lines before it, and says how many lines these are together.
+    /// Takes the rows of a text's lines, after `lines` lines before it, and returns how many lines these are together.
     ///
     /// # Errors
     ///
-    /// The first line that is no row, or whose hop is one too many; no memory.
+    /// The first line that is no row, or whose hop is one too many; or out of memory.
     #[tactic(auto, using(crate::proofs::LinesTaken::goes_on))]
     pub(crate) fn take_lines(&mut self, lines: u64, text: &[u8]) -> Result<u64, PrintedError>
         requires few { length self.old.hops.list ≤ most_hops }

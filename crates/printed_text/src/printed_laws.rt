@@ -18,14 +18,14 @@ ghost use Rattle.printed_text.specs.Whole.{HaveRows, IsFirstBad};
 
 use crate::kind::Kind;
 
-/// What is written of a row is read as it. The text of rows is read as these rows, where their hops have numbers.
+/// What is written of a row is read as it. The text of rows is read as these rows, if their hops have numbers.
 pub fn written_law()
     ensures row { (row : PrintedRow) → IsRow row → row_in (fields_of row) ≡ Ok row }
     ensures text { (rows : List PrintedRow) → AllByRecursion IsRow rows
         → length (hops_in rows) ≤ most_hops → rows_in (text_of rows) ≡ Ok rows }
 {}
 
-/// A text is read as rows exactly where each of its lines that isn't empty has one, and these are the rows, whose hops have
+/// A text is read as rows exactly if each of its lines that isn't empty has one, and these are the rows, whose hops have
 /// numbers. It is bad exactly at its first line that has none or brings one hop too many.
 pub fn reading_law()
     ensures rows { (text : List ℕ) (rows : List PrintedRow) → rows_in text ≡ Ok rows
@@ -40,7 +40,7 @@ pub fn numbers_law()
         (hop_number (hops_in rows) (Some a)) ≡ Some a) (flat_map numbered_hop rows) }
 {}
 
-/// So it is of the rows of one kind, where only their hops get numbers, behind those that have numbers before. Each hop that such a row
+/// So it is of the rows of one kind: only their hops get numbers, after those that have numbers before. Each hop that such a row
 /// brings has a number then, which stands for it; and a number that stood for a hop before still does.
 pub fn kinds_law()
     ensures rows { (kind : Kind) (before : List Address) (text : List ℕ) (rows : List PrintedRow) → length before ≤ most_hops
@@ -53,9 +53,9 @@ pub fn kinds_law()
         → hop_at (kind_hops kind before rows) n ≡ Some a }
 {}
 
-/// The numbers of hops don't matter to a certificate: the printed rows of routes that have hops, of a table, and of a certificate
-/// that proves it least, prove a least table with the numbers that a reader gives the hops. The text of the rows is read as them
-/// where the hops aren't too many. Rows of proper entries are proper.
+/// The numbers of hops don't matter to a certificate. Take the printed rows of routes that have hops, of a table, and of a
+/// certificate that proves it least. They prove a least table with the numbers that a reader gives the hops. The text of the rows
+/// is read as them if the hops aren't too many. Rows of proper entries are proper.
 pub fn printed_law()
     ensures proves { (hops : List Address) (R T : Entries) (C : List CertRow) (between after : List PrintedRow) → IsDistinct same_address hops → HaveHops hops R →
         AllByRecursion IsOther between → AllByRecursion IsOther after → IsCertificate R T C → Proves (used_of (rows_with hops R T C between after)) }

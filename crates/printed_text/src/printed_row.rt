@@ -14,7 +14,8 @@
 //!     cert,bound,FAMILY,NUMBER      with 4 or 6 for the family
 //!     report,NAME,NUMBER
 //!
-//! ORIGIN is a number, or `none` where the announcement has no origin. HOP is an address, or for no hop `none` in answer and leaf rows and `drop` in change, table and least rows.
+//! ORIGIN is a number, or `none` if the announcement has no origin. HOP is an address, or for no hop `none` in answer and leaf
+//! rows and `drop` in change, table and least rows.
 
 ghost use Rattle.std.specs.Prelude.{option_map};
 ghost use Rattle.octet_fields.specs.Gives.{Gives};
@@ -43,9 +44,9 @@ pub enum Count {
     Routes,
     /// The entries of the kept table.
     Entries,
-    /// The nodes that look-ups need.
+    /// The nodes that lookups need.
     Nodes,
-    /// The leaves that look-ups need.
+    /// The leaves that lookups need.
     Leaves,
     /// The messages that were treated as withdrawals (RFC 7606, section 2).
     Treated,
@@ -64,11 +65,11 @@ pub enum PrintedRow {
     Replace(u64, Prefix, Option<Addr>),
     /// The event of this number removes an entry.
     Remove(u64, Prefix),
-    /// The event of this number needed so many changes.
+    /// The event of this number needed this many changes.
     Moves(u64, u64),
     /// The hop of an address.
     Answer(Addr, Option<Addr>),
-    /// How many nodes the look-up of an address visits.
+    /// How many nodes the lookup of an address visits.
     Visits(Addr, u64),
     /// An entry of the kept table.
     Table(Prefix, Option<Addr>),
@@ -78,7 +79,7 @@ pub enum PrintedRow {
     Leaf(Prefix, Option<Addr>),
     /// Of a certificate: the prefix's region is put together from its halves, and has this k.
     Join(Prefix, u64),
-    /// Of a certificate: a least table of the family has so many entries.
+    /// Of a certificate: a least table of the family has this many entries.
     Bound(Family, u64),
     /// A count.
     Report(Count, u64),
@@ -130,7 +131,7 @@ fn answer_in(fields: Fields<'_>) -> Result<PrintedRow, u8>
     Ok(PrintedRow::Answer(addr, hop))
 }
 
-/// The visits of a look-up.
+/// The visits of a lookup.
 #[tactic(auto, unfolding(crate::specs::Reading::visits_in))]
 fn visits_in(fields: Fields<'_>) -> Result<PrintedRow, u8>
     ensures { Gives printed_row_as result (visits_in fields.entry) }

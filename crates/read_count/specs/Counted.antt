@@ -8,7 +8,7 @@ use Rattle.mrt_read.specs.declared.whole.WholeError.{WholeError}
 use Rattle.mrt_read.specs.declared.whole.WholeError.TheVariants.{Malformed, NoMemory, Fault, TooLarge}
 use Rattle.read_count.specs.declared.count.Counts.{Counts}
 
--- the counts are those of what the octets say; more events than 64 bits count are told as the greatest number
+-- the counts are those of what the octets say; more events than 64 bits count are reported as the greatest number
 pub record CountsOctets (counts : Counts) (octets : List ℕ) : Type 0 where
   pub told : Progress
   pub all : input octets ≡ Ok told

@@ -15,7 +15,7 @@ pub struct Counts {
     pub records: u64,
     /// The skipped ones.
     pub skipped: u64,
-    /// The events; 2^64 - 1 where there are more.
+    /// The events; 2^64 - 1 if there are more.
     pub events: u64,
     /// The messages treated as withdrawals (RFC 7606).
     pub treated: u64,

@@ -26,7 +26,7 @@ pub record IsChoice (held : Candidates) (elem : Elem) (choice : Choice) : Type 0
   pub before : option_map addr_as choice.before ≡ chosen_for held (elem_prefix elem)
   pub after : option_map addr_as choice.after ≡ chosen_for (after_elem held elem) (elem_prefix elem)
 
--- the elementary event of a pick, and the choice that it told
+-- the elementary event of a pick, and the choice that it gave
 abbrev pub pick_elem : Pick → Elem
 pick_elem pick = elem_as pick.elem
 

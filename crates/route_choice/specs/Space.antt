@@ -12,7 +12,7 @@ use Rattle.route_choice.specs.Paths.{key_in, attrs_in}
 abbrev pub planned_elem : Plan → model.Elem
 planned_elem p = elem_as p.elem
 
--- the event for which a plan holds room in the ordered maps: none where its path key has a slot in the base
+-- the event for which a plan holds room in the ordered maps: none if its path key has a slot in the base
 abbrev pub over_in : Option ℕ → Elem → Option Elem
 over_in None e = Some e
 over_in (Some i) e = None
@@ -25,7 +25,7 @@ over_of (Some p) = over_in p.at p.elem
 abbrev pub HasPlace : Flat → Plan → Type 0
 HasPlace b p = MatchOption p.at (HasNoKey b (key_in p.elem)) (IsSlotOf b (key_in p.elem))
 
--- where its path key has a slot, what it offers has a hop with a number
+-- if its path key has a slot, what it offers has a hop with a number
 abbrev pub HasHopNumber : Flat → Elem → Type 0
 HasHopNumber b e = (o : PathAttrs) → attrs_in e ≡ Some o → HasHop b.hops.keys o.hop
 

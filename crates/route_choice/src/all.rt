@@ -1,4 +1,4 @@
-//! All candidates, in the order of prefixes, then of path sources, handed on one by one.
+//! All candidates, in the order of prefixes, then of path sources, passed on one by one.
 
 ghost use Rattle.std.specs.Prelude.{◌≡◌, ◌++◌, ◌∷◌, [], OnOk};
 ghost use Rattle.std.specs.List.Sorted.{IsStrictlySortedBy};
@@ -41,7 +41,8 @@ pub fn emit_candidates<S: CandSink>(
     Ok(())
 }
 
-/// Hands on the candidates of these prefixes. The base's come row by row, without a search, where the prefixes are those of its rows.
+/// Passes on the candidates of these prefixes. The base's come row by row, without a search, if the prefixes are those of its
+/// rows.
 fn emit_prefixes<S: CandSink>(
     alloc: Global,
     flat: &Flat,
@@ -69,8 +70,8 @@ fn emit_prefixes<S: CandSink>(
     Ok(())
 }
 
-/// Hands on the candidates of a prefix, for which the base offers these. Where it has ranks there is `more` to put both into the order
-/// of path sources: there may be any number.
+/// Passes on the candidates of a prefix, for which the base offers these. If it has ranks there is `more` to put both into the
+/// order of path sources: there may be any number.
 fn emit_prefix<S: CandSink>(
     paths: &BTreeMap<PathKey, Option<PathAttrs>>,
     ranks: &BTreeSet<Rank>,
@@ -148,7 +149,7 @@ fn emit_way<S: CandSink>(
     Ok(())
 }
 
-/// The candidate of a prefix and a path source, told by the peer's address, its AS number and the path identifier.
+/// The candidate of a prefix and a path source, from the peer's address, its AS number and the path identifier.
 fn candidate(prefix: &Prefix, addr: Addr, asn: u32, id: u32, attrs: &PathAttrs) -> Cand
     ensures { cand_as result ≡ by_way prefix.now
         (record { peer = record { addr = addr; asn = asn }; id = id }, attrs.now) }

@@ -1,4 +1,4 @@
-//! Steps over the base and the ordered maps together. A path key where the maps have an offer has no slot in the base.
+//! Steps over the base and the ordered maps together. A path key for which the maps have an offer has no slot in the base.
 
 ghost use Rattle.std.specs.Prelude.{◌≡◌, true, false, Some, None, MatchOption, IfOk, OnOk, OnErr};
 ghost use Rattle.adj_rib_in.specs.Paths.{held_in, attrs_at as offered};
@@ -250,7 +250,7 @@ pub fn load_elem(
     Ok(())
 }
 
-/// Offers a route, beside the room of the plan: behind all others of the base, where its place is, without a search. An `Err`
+/// Offers a route, beside the room of the plan: after all others of the base, if its place is there, without a search. An `Err`
 /// leaves all as it was.
 pub fn put_route(
     flat: &mut Flat,
@@ -323,8 +323,8 @@ fn put_one(
     }
 }
 
-/// Offers a route behind all slots, if its place is there and the maps have no offer of its path source for its prefix; and tells whether it
-/// did.
+/// Offers a route after all slots, if its place is there and the maps have no offer of its path source for its prefix; and
+/// returns whether it did.
 fn put_behind(
     flat: &mut Flat,
     paths: &BTreeMap<PathKey, Option<PathAttrs>>,
@@ -351,7 +351,7 @@ fn put_behind(
     Ok(put)
 }
 
-/// Whether the maps have an offer of a path source for a prefix. Where they are empty no path key is made.
+/// Whether the maps have an offer of a path source for a prefix. If they are empty no path key is made.
 fn has_attrs(paths: &BTreeMap<PathKey, Option<PathAttrs>>, via: &Via, prefix: &Prefix) -> bool
     ensures { result ≡ false → offered paths.now.entries (record { via = via.now; prefix = prefix.now }) ≡ None }
 {

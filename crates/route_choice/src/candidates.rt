@@ -71,7 +71,7 @@ impl Candidates {
     ///
     /// # Errors
     ///
-    /// No memory.
+    /// Out of memory.
     pub fn elementary(&self, event: &Event) -> Result<Vec<Elem>, AllocError>
         ensures { IfOk result (λ elems. map elem_as elems.items
             ≡ elems_of self.now.candidates (event_as event.now)) }
@@ -104,12 +104,12 @@ impl Candidates {
         Ok(())
     }
 
-    /// Makes room for an elementary event and tells the choice that it will make. It changes no route. The plan before it is
+    /// Makes room for an elementary event and returns the choice that it will make. It changes no route. The plan before it is
     /// void.
     ///
     /// # Errors
     ///
-    /// No memory; then nothing has changed, and the plan before it still holds.
+    /// Out of memory; then nothing has changed, and the plan before it still holds.
     pub fn plan(&mut self, elem: &Elem) -> Result<Pick, AllocError>
         ensures candidates { self.new.candidates ≡ self.old.candidates }
         ensures elem { IfOk result (λ pick. pick_elem pick ≡ elem_as elem.now) }
@@ -126,7 +126,7 @@ impl Candidates {
         })
     }
 
-    /// Carries out what was planned, where nothing changed since. Takes no memory.
+    /// Carries out what was planned, if nothing changed since. Takes no memory.
     pub fn commit(&mut self, pick: Pick) -> Choice
         requires { IsPlanned self.old pick }
         ensures candidates { self.new.candidates ≡ after_elem self.old.candidates (pick_elem pick) }
@@ -145,7 +145,7 @@ impl Candidates {
     ///
     /// # Errors
     ///
-    /// No memory; then nothing has changed, and an earlier plan still holds.
+    /// Out of memory; then nothing has changed, and an earlier plan still holds.
     pub fn apply(&mut self, elem: &Elem) -> Result<Choice, AllocError>
         ensures candidates { OnOk result (self.new.candidates
             ≡ after_elem self.old.candidates (elem_as elem.now)) }
@@ -162,7 +162,7 @@ impl Candidates {
     ///
     /// # Errors
     ///
-    /// No memory; then nothing has changed, and an earlier plan still holds.
+    /// Out of memory; then nothing has changed, and an earlier plan still holds.
     pub fn load(&mut self, elem: &Elem) -> Result<(), AllocError>
         ensures candidates { OnOk result (self.new.candidates
             ≡ after_elem self.old.candidates (elem_as elem.now)) }
@@ -174,12 +174,12 @@ impl Candidates {
         Ok(())
     }
 
-    /// Carries out the elementary event that puts a route, as `load` does, at a fraction of what that costs where the route comes in
+    /// Carries out the elementary event that puts a route, as `load` does, at a fraction of what that costs if the route comes in
     /// the order of prefixes. An earlier plan is void.
     ///
     /// # Errors
     ///
-    /// No memory; then nothing has changed, and an earlier plan still holds.
+    /// Out of memory; then nothing has changed, and an earlier plan still holds.
     pub fn load_put(
         &mut self,
         via: &Via,
@@ -218,7 +218,7 @@ impl Candidates {
     ///
     /// # Errors
     ///
-    /// No memory.
+    /// Out of memory.
     pub fn routes(&self) -> Result<Vec<(Prefix, Addr)>, AllocError>
         ensures routes { IfOk result (λ routes. map route_as routes.items
             ≡ routes_of self.now.candidates) }
@@ -231,7 +231,7 @@ impl Candidates {
     ///
     /// # Errors
     ///
-    /// No memory.
+    /// Out of memory.
     pub fn route_entries(&self, hops: &HopTable) -> Result<Vec<Entry>, AllocError>
         ensures entries { IfOk result (λ entries. map entry_as entries.items
             ≡ entries_of hops.now.list self.now.candidates) }
@@ -240,7 +240,7 @@ impl Candidates {
         all_entries(self.alloc, &self.flat, &self.paths, &self.ranks, hops)
     }
 
-    /// The same of a family one by one, as they are chosen, where all routes lie in the base: no list is made. `None` where some
+    /// The same of a family one by one, as they are chosen, if all routes lie in the base: no list is made. `None` if some
     /// came out of the order of prefixes, or with updates.
     pub fn family_routes<'a>(
         &'a self,
@@ -260,7 +260,7 @@ impl Candidates {
     ///
     /// # Errors
     ///
-    /// No memory.
+    /// Out of memory.
     pub fn all(&self) -> Result<Vec<Cand>, AllocError>
         ensures all { IfOk result (λ cands. map cand_as cands.items ≡ self.now.candidates) }
         ensures octets { OnOk result (AllByRecursion IsOfOctets self.now.candidates) }
@@ -275,7 +275,7 @@ impl Candidates {
     ///
     /// # Errors
     ///
-    /// No memory; then a front of the candidates was taken.
+    /// Out of memory; then the first n candidates were taken, for some n.
     pub fn emit_all<S: CandSink>(&self, out: &mut S) -> Result<(), AllocError>
         requires { S.ready out.old }
         ensures ready { OnOk result (S.ready out.new) }

@@ -100,7 +100,7 @@ fn push_entry(
     Ok(())
 }
 
-/// The number of a hop, none's where it has no number.
+/// The number of a hop, none's if it has no number.
 pub(crate) fn number(hops: &HopTable, hop: &Addr) -> Hop
     ensures { result.0 ≡ number_in hops.now.list (addr_as hop.now) }
 {

@@ -1,4 +1,4 @@
-//! The routes of a family one by one, where all candidates lie in rows: no list of them is made.
+//! The routes of a family one by one, if all candidates lie in rows: no list of them is made.
 
 ghost use Rattle.std.specs.Prelude.{◌≡◌, ◌++◌, ◌∷◌, [], drop, map, option_map, IfSome, IfNone};
 ghost use Rattle.std.specs.Option.{option_to_list};
@@ -25,7 +25,7 @@ pub struct FamilyRoutes<'a> {
     family: Family,
     // the next route, if any is left
     next: Option<Entry>,
-    // the row behind its own
+    // the row after its own
     row: usize,
 }
 
@@ -44,7 +44,7 @@ impl<'a> Model for FamilyRoutes<'a> {
     ghost invariant = { λ r. IsFlat r.flat.now × ShareNoKey (flat_paths r.flat.now) r.paths.now.entries × OffersNothing r.paths.now.entries × (r.next ≡ None → family_entries_at r.family r.hops.now.list (paths_over r.flat.now r.paths.now.entries) (rows_from r.row r.flat.now.rows.items) ≡ []) };
 }
 
-/// A route, and the row behind its own.
+/// A route, and the row after its own.
 #[derive(Clone, Copy)]
 struct Found {
     route: Option<Entry>,
@@ -119,7 +119,7 @@ fn route_from(flat: &Flat, hops: &HopTable, family: Family, from: usize) -> Foun
 }
 
 impl<'a> FamilyRoutes<'a> {
-    /// The routes of a family, where all that is offered is offered in rows.
+    /// The routes of a family, if all that is offered is offered in rows.
     pub(crate) fn new(
         flat: &'a Flat,
         paths: &'a BTreeMap<PathKey, Option<PathAttrs>>,

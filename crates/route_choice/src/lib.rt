@@ -17,7 +17,7 @@
 //! each path source. What comes out of order, what updates bring for new places, and a prefix's routes past the 64th lie in two ordered
 //! maps over it: a route has a path key there, by peer, then prefix, then path identifier, which says what is offered, and a rank, by
 //! prefix and then by preference. So a peer's routes lie together, in the maps and by a chain in the base, and a prefix's routes lie
-//! together. A change costs a few look-ups and a run of slots at most, whatever the other routes are; what a lost session takes
+//! together. A change costs a few lookups and a run of slots at most, whatever the other routes are; what a lost session takes
 //! costs its own routes.
 #![tactic(auto)]
 

@@ -50,7 +50,7 @@ pub fn attrs_at(paths: &BTreeMap<PathKey, Option<PathAttrs>>, key: &PathKey) -> 
     }
 }
 
-/// The offer of a rank; none where the path key offers another path, or nothing.
+/// The offer of a rank; none if the path key offers another path, or nothing.
 pub fn attrs_ranked(paths: &BTreeMap<PathKey, Option<PathAttrs>>, rank: &Rank) -> Option<PathAttrs>
     ensures { result ≡ ranked paths.now.entries rank.now }
 {
@@ -101,7 +101,7 @@ pub fn has_no_rank(
     }
 }
 
-/// Adds what comes from path sources in their order, where nothing came yet.
+/// Adds what comes from path sources in their order, if nothing came yet.
 pub fn add_list(
     list: &[(Via, PathAttrs)],
     ways: &mut BTreeMap<Via, PathAttrs>,
@@ -120,7 +120,7 @@ pub fn add_list(
 ///
 /// # Errors
 ///
-/// No memory.
+/// Out of memory.
 pub fn add_ways(
     paths: &BTreeMap<PathKey, Option<PathAttrs>>,
     ranks: &BTreeSet<Rank>,
@@ -249,7 +249,7 @@ fn prune_rank(paths: &BTreeMap<PathKey, Option<PathAttrs>>, ranks: &mut BTreeSet
     }
 }
 
-/// Removes a path key where nothing is offered.
+/// Removes a path key if nothing is offered there.
 fn prune_key(paths: &mut BTreeMap<PathKey, Option<PathAttrs>>, key: &PathKey)
     ensures offers { (s : PathKey) → offered paths.new.entries s ≡ offered paths.old.entries s }
     ensures serve { (held : PathKey → Bool) → EachKeyServes paths.old.entries
@@ -302,7 +302,7 @@ fn give_back_rank(
     }
 }
 
-/// Gives back a path key of an earlier plan: removes it, but where something is offered and for the plan.
+/// Gives back a path key of an earlier plan: removes it, unless something is offered there or it is held for the plan.
 fn give_back_key(
     paths: &mut BTreeMap<PathKey, Option<PathAttrs>>,
     key: &PathKey,
@@ -340,7 +340,7 @@ pub fn give_back(
     }
 }
 
-/// Takes back a rank that was put, where it was new.
+/// Takes back a rank that was put, if it was new.
 fn take_back(ranks: &mut BTreeSet<Rank>, rank: &Rank, is_new: bool)
     ensures { (r : Rank) → has_rank ranks.new.keys r ≡ cond
         (is_new && is_eq (rank_cmp rank.now r)) false (has_rank ranks.old.keys r) }
@@ -350,7 +350,7 @@ fn take_back(ranks: &mut BTreeSet<Rank>, rank: &Rank, is_new: bool)
     }
 }
 
-/// Makes room for a path key and a rank, where they aren't there. An `Err` leaves both as they were.
+/// Makes room for a path key and a rank, if they aren't there. An `Err` leaves both as they were.
 fn make_room(
     paths: &mut BTreeMap<PathKey, Option<PathAttrs>>,
     ranks: &mut BTreeSet<Rank>,

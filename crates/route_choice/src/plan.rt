@@ -22,7 +22,7 @@ pub struct Plan {
     pub row: usize,
 }
 
-/// The event for which a plan holds room in the ordered maps: none where its path key has a slot in the base.
+/// The event for which a plan holds room in the ordered maps: none if its path key has a slot in the base.
 pub fn over_of(plan: &Option<Plan>) -> Option<Elem>
     ensures { result ≡ over plan.now }
 {

@@ -10,7 +10,7 @@ use fib_prefix::Prefix;
 use std::alloc::{AllocError, Global};
 use std::collections::BTreeSet;
 
-/// The prefixes that have a row or a rank, each once, in their order. It costs no more than to look at each, where few have a rank:
+/// The prefixes that have a row or a rank, each once, in their order. It costs no more than to look at each, if few have a rank:
 /// those of rows and those of ranks are in order, and the sort merges them.
 pub fn all_prefixes(
     alloc: Global,

@@ -82,7 +82,7 @@ elems_after held (event ∷ events) = elems_of held event ++ elems_after (after_
 abbrev pub choice_cmp : Place × PathAttrs → Place × PathAttrs → Ordering
 choice_cmp c d = ordering_then (nat_cmp c.1.path d.1.path) (via_cmp c.0.via d.0.via)
 
--- whether the first of two candidates is preferred: a shorter path, or where the paths are equally long a lesser peer, and of one peer the lesser path identifier
+-- whether the first of two candidates is preferred: a shorter path, or, if the paths are equally long, a lesser peer, and of one peer the lesser path identifier
 abbrev pub beats : Place × PathAttrs → Place × PathAttrs → Bool
 beats c d = is_lt (choice_cmp c d)
 
@@ -106,7 +106,7 @@ routes_of held = map (λ c. (c.0.prefix, c.1.hop)) (chosen_in held)
 abbrev pub chosen_for : Candidates → Prefix → Option Address
 chosen_for held p = lookup (same_prefix p) (routes_of held)
 
--- ---- the candidates, told by what was last said
+-- ---- the candidates, determined by what was last said
 
 -- the elementary event is about a place that there is
 abbrev pub IsElem : Elem → Type 0

@@ -21,7 +21,7 @@ same_peer q r = same_address q.addr r.addr && q.asn == r.asn
 abbrev pub peer_cmp : Peer → Peer → Ordering
 peer_cmp q r = ordering_then (family_cmp q.addr.family r.addr.family) (ordering_then (nat_cmp (value_of q.addr.bits) (value_of r.addr.bits)) (nat_cmp q.asn r.asn))
 
--- The path source of a route: its peer, and the path identifier that tells the peer's routes of one prefix apart (RFC 7911, 3), which is 0 where the peer sends none.
+-- The path source of a route: its peer, and the path identifier that tells the peer's routes of one prefix apart (RFC 7911, 3), which is 0 if the peer sends none.
 pub record Via : Type 0 where
   pub peer : Peer
   pub id : ℕ
@@ -36,7 +36,7 @@ same_via v u = same_peer v.peer u.peer && v.id == u.id
 abbrev pub via_cmp : Via → Via → Ordering
 via_cmp v u = ordering_then (peer_cmp v.peer u.peer) (nat_cmp v.id u.id)
 
--- What a peer says: a route of a prefix, with the length of its path, its next hop, and the AS in which it originates where its path tells it (RFC 6811, 2); that a route is gone; or that the session is lost and all of the peer's routes with it.
+-- What a peer says: a route of a prefix, with the length of its path, its next hop, and the AS in which it originates if its path says it (RFC 6811, 2); that a route is gone; or that the session is lost and all of the peer's routes with it.
 pub data Event : Type 0 where
   Announce : Via → Prefix → ℕ → Address → Option ℕ → Event
   Withdraw : Via → Prefix → Event

@@ -27,7 +27,7 @@ pub fn order_law()
         → AreCandidates (after_elem held elem) }
 {}
 
-/// Where a prefix has candidates, exactly one of them is chosen: the route of the shortest path, and among those that of the
+/// If a prefix has candidates, exactly one of them is chosen: the route of the shortest path, and among those that of the
 /// least path source: of the least peer, and of its routes that of the least path identifier.
 pub fn choice_law()
     ensures one { (held : Candidates) (c : Place × PathAttrs) → AreCandidates held → IsHeld held c

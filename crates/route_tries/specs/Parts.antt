@@ -13,7 +13,7 @@ use Rattle.poptrie_build.specs.Tries.{rest}
 use Rattle.poptrie_build.specs.declared.counts.Needs.{Needs}
 use Rattle.route_tries.specs.Sizes.{need_of, told_need}
 
--- paths meet where one begins with the other: only then do some addresses begin with both
+-- paths meet if one begins with the other: only then do some addresses begin with both
 abbrev pub meet : List Bool → List Bool → Bool
 meet p q = begins p q || begins q p
 
@@ -33,8 +33,8 @@ abbrev pub half_and : Option ℕ → Option (Option ℕ) → Option ℕ
 half_and o None = o
 half_and o (Some x) = same_hop o x
 
--- The one answer of a region's addresses of d more bits that are beside the path p, that is, don't begin with it: Some None where two
--- of them have different answers, None where there is no such address.
+-- The one answer of a region's addresses of d more bits that are beside the path p, that is, don't begin with it: Some None if two
+-- of them have different answers, None if there is no such address.
 unfoldable pub answer_beside : ℕ → (List Bool → ℕ) → List Bool → Option (Option ℕ)
 answer_beside zero f p = None
 answer_beside (suc d) f [] = None
@@ -51,13 +51,13 @@ other_than h None = false
 other_than h (Some None) = true
 other_than h (Some (Some g)) = not (nat_eq g h)
 
--- A region's node lasts where two addresses beside the path have different answers: whatever changes within the path, the region has
+-- A region's node lasts if two addresses beside the path have different answers: whatever changes within the path, the region has
 -- two answers.
 abbrev pub lasts : ℕ → (List Bool → ℕ) → List Bool → Bool
 lasts d f p = are_two (answer_beside d f p)
 
 -- Below a chunk region, over k strides, what is needed on the way to a path and within it, from the deepest node that lasts on: what the
--- nodes above it need beside it stays the same where something changes within the path. From the region's own node on if none below it
+-- nodes above it need beside it stays the same if something changes within the path. From the region's own node on if none below it
 -- lasts.
 unfoldable pub deep_nodes : ℕ → ℕ → (List Bool → ℕ) → List Bool → ℕ
 deep_nodes zero d f p = 0
@@ -68,7 +68,7 @@ deep_leaves zero d f p = 0
 deep_leaves (suc k) d f p = if lasts (d - 6) (part (take 6 p) f) (drop 6 p) then deep_leaves k (d - 6) (part (take 6 p) f) (drop 6 p) else way_leaves (suc k) d f p
 
 -- ---- a whole trie
--- Of a whole trie of s direct bits, over k strides of the d bits behind them: by halves down to the direct slots that meet the path,
+-- Of a whole trie of s direct bits, over k strides of the d bits after them: by halves down to the direct slots that meet the path,
 -- each of which that has a node has that node's place too.
 unfoldable pub trie_way_nodes : ℕ → ℕ → ℕ → (List Bool → ℕ) → List Bool → ℕ
 trie_way_nodes zero k d f p = mixed (one_answer d f) + deep_nodes k d f p
@@ -101,8 +101,8 @@ pub record AreMoved (n m part_n part_m : ℕ) : Type 0 where
   pub few : part_n ≤ n
   pub same : m + part_n ≡ n + part_m
 
--- The needs before, those at a prefix before, and those at it after: where the table changed within the prefix alone, the last of
--- them is the need after, as a u64 tells it.
+-- The needs before, those at a prefix before, and those at it after: if the table changed within the prefix alone, the last of
+-- them is the need after, as a u64 holds it.
 abbrev pub IsNeedAfter : (whole before after moved : Needs) → Type 0
 IsNeedAfter whole before after moved =
     (s : ℕ) (L M : Entries) (p : Prefix) → AreAlikeOutside p L M → whole ≡ need_of p.family s L → before ≡ told_need (need_at s L p) → after ≡ told_need (need_at s M p) → moved ≡ told_need (need_of p.family s M)

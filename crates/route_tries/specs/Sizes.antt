@@ -1,4 +1,4 @@
--- How large the tries of both families are, what they need, and what is said where an arena is too small.
+-- How large the tries of both families are, what they need, and what is said if an arena is too small.
 use Rattle.std.specs.Prelude.{◌≤◌, ℕ, ◌+◌, ◌^◌, Option, Some, None, cond, nat_lt}
 use Rattle.table_model.specs.declared.family.Family.{Family}
 use Rattle.table_model.specs.declared.family.Family.TheVariants.{V4, V6}
@@ -35,7 +35,7 @@ shortage_as t = record { arena = t.arena; need = t.need; have = t.have }
 abbrev pub need_of : Family → ℕ → Entries → Needs
 need_of f s L = record { nodes = node_need f s L; leaves = leaf_need f s L }
 
--- the needs of both families' tries, where L has the entries of IPv4 and M those of IPv6
+-- the needs of both families' tries, if L has the entries of IPv4 and M those of IPv6
 abbrev pub needs_of_both : ℕ → Entries → Entries → FamilyNeeds
 needs_of_both s L M = record { v4 = need_of V4 s L; v6 = need_of V6 s M }
 
@@ -43,7 +43,7 @@ needs_of_both s L M = record { v4 = need_of V4 s L; v6 = need_of V6 s M }
 abbrev pub needs_of : ℕ → Entries → FamilyNeeds
 needs_of s L = needs_of_both s L L
 
--- needs as they are told in u64s
+-- needs as u64s hold them
 abbrev pub told_need : Needs → Needs
 told_need n = record { nodes = need_in_u64 n.nodes; leaves = need_in_u64 n.leaves }
 
@@ -52,7 +52,7 @@ told_needs n = record { v4 = told_need n.v4; v6 = told_need n.v6 }
 
 -- ---- what is short
 
--- what is short of this arena, or where its places are enough, what is said of the arenas after it
+-- what is short of this arena, or, if its places are enough, what is said of the arenas after it
 abbrev pub short_or : (arena need have : ℕ) → Option Shortage → Option Shortage
 short_or arena need have later = cond (nat_lt have need) (Some (record { arena = arena; need = need_in_u64 need; have = have })) later
 

@@ -4,7 +4,7 @@ use Rattle.table_model.specs.Bits.{bits_of}
 use Rattle.route_tries.specs.Parts.{meet, way_nodes, way_leaves}
 
 -- what is needed below slot u of those that j bits tell apart, a region of e more bits with the answers f, on the way to the path p:
--- nothing where the slot and the path don't meet
+-- nothing if the slot and the path don't meet
 abbrev pub nodes_below : ℕ → ℕ → ℕ → (List Bool → ℕ) → List Bool → ℕ → ℕ
 nodes_below j k e f p u = if meet (bits_of j u) p then way_nodes k e f (drop j p) else 0
 

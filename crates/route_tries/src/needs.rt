@@ -23,7 +23,7 @@ pub struct FamilyNeeds {
     pub v6: Needs,
 }
 
-/// What a trie of a tree's routes needs with so many direct bits. It costs the whole tree.
+/// What a trie of a tree's routes needs with `direct` direct bits. It costs the whole tree.
 pub fn need_of(tree: &Tree, direct: u8) -> Needs
     requires { direct ≤ 18 }
     ensures { result ≡ told_need (need_in tree.now.family direct tree.now.routes) }
@@ -67,7 +67,7 @@ pub fn need_after(whole: Needs, before: Needs, after: Needs) -> Needs
     }
 }
 
-/// What is short of an arena of this order, or where its places are enough, of the arenas after it.
+/// What is short of an arena of this order or, if its places are enough, of the arenas after it.
 fn short_or(arena: u8, need: u64, order: u8, later: Option<TrieFull>) -> Option<TrieFull>
     requires { order ≤ 26 }
     ensures { option_map shortage_as result

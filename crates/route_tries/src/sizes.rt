@@ -1,4 +1,4 @@
-//! How large tries are, and what is told where one is too small.
+//! How large tries are, and what is reported if one is too small.
 
 ghost use Rattle.std.specs.Prelude.{◌≤◌};
 

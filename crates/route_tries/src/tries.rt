@@ -105,7 +105,7 @@ impl<'a> Tries<'a> {
     ///
     /// # Errors
     ///
-    /// `Full` exactly where an arena is too small, of which it names the first; or no memory.
+    /// `Full` exactly if an arena is too small, of which it names the first; or out of memory.
     pub fn build(
         alloc: Global,
         sizes: &Sizes,

@@ -32,7 +32,7 @@ pub(crate) fn count_way<R: Region>(region: &R, q: u128, left: u8) -> Needs
 }
 
 /// Adds the slots of a part of a node's region with two answers, a part on the way, which `depth` more bits tell apart:
-/// those of its halves. The path goes on in the half of its next bit, and the other half is beside the way; where nothing is left of
+/// those of its halves. The path goes on in the half of its next bit, and the other half is beside the way; if nothing is left of
 /// the path, both halves are within it.
 #[cycle(count_way)]
 fn tally_halves<R: Region>(region: &R, depth: u8, q: u128, left: u8, tally: &mut Tally)

@@ -11,7 +11,7 @@ use fib_router::Router;
 use mrt_read::read_all_events;
 use std::alloc::Global;
 
-/// Room for a whole table of today, behind 16 direct bits; no snapshots.
+/// Room for a whole table of today, after 16 direct bits; no snapshots.
 const LIMITS: Limits = Limits {
     every: 0,
     fewest: false,
@@ -39,7 +39,8 @@ fn load_event(engine: &mut Engine, event: &Event) -> anyhow::Result<()>
 ///
 /// # Errors
 ///
-/// The dump can't be opened or read, breaks a rule of reading, has more next hops than have numbers, or needs larger tries; or no memory.
+/// The dump can't be opened or read, breaks a rule of reading, has more next hops than have numbers, or needs larger tries; or
+/// out of memory.
 pub fn load<I: Inputs>(alloc: Global, inputs: &mut I, name: &str) -> anyhow::Result<Router>
     ensures rest { IfOk result (λ router. router.begun ≡ None) }
     ensures none { IfOk result (λ router. router.held.events ≡ 0) }

@@ -61,7 +61,7 @@ impl Lookups {
     ///
     /// # Errors
     ///
-    /// No memory.
+    /// Out of memory.
     pub fn new(alloc: Global) -> Result<Lookups, AllocError>
         ensures { IfOk result (λ t. (r : Routing) → IsTrieOf V4 r.lives.v4 → IsTrieOf V6 r.lives.v6
             → GoOnBeside r t) }

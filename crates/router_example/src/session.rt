@@ -61,7 +61,7 @@ impl Session {
     ///
     /// # Errors
     ///
-    /// No memory.
+    /// Out of memory.
     pub fn new(alloc: Global, router: Router) -> Result<Session, AllocError>
         requires rest { router.begun ≡ None }
         requires none { router.held.events ≡ 0 }
@@ -85,7 +85,7 @@ impl Session {
     ///
     /// # Errors
     ///
-    /// No memory.
+    /// Out of memory.
     pub fn elementary(&self, event: &Event) -> Result<Vec<Elem>, AllocError> {
         self.router.elementary(event)
     }
@@ -100,7 +100,7 @@ impl Session {
     /// # Errors
     ///
     /// The event isn't begun: it brings one different hop too many, its tries need more than there is, or they don't fit beside what the
-    /// lookup holds; or no memory. Then the router is as it was.
+    /// lookup holds; or out of memory. Then the router is as it was.
     pub fn take(&mut self, elem: &Elem, addr: &Addr) -> anyhow::Result<Taken>
         requires { IsBetweenEvents self.old }
         ensures { IsBetweenEvents self.new }

@@ -23,12 +23,12 @@ verdict_as v = record { wrong = option_map wrong_moves_as v.wrong; hops = v.hops
 abbrev pub claim_as : CodeClaim → Claim
 claim_as c = record { table = map entry_as c.asked.table.items; routes = map entry_as c.asked.routes.items; changes = map change_as c.said.changes.items; rows = map row_as c.said.rows.items }
 
--- Of some claim: where nothing is wrong, it is proved; and where something is wrong in a family, the family's rows don't prove its changes
+-- Of some claim: if nothing is wrong, it is proved; and if something is wrong in a family, the family's rows don't prove its changes
 -- shortest.
 pub record IsJudged (c : Claim) (v : MovesVerdict) : Type 0 where
   pub yes : v.wrong ≡ None → IsProved c
   pub no : IfSome v.wrong (λ w. IsProvedIn w.family c → ⊥)
 
--- Whatever the texts hold: the verdict is that on some claim, which is that of the texts if these are told, and it is right.
+-- Whatever the texts hold: the verdict is that on some claim, which is that of the texts if these are known, and it is right.
 abbrev pub EndsJudged : Result Claimed TextStop → MovesVerdict → Type 0
 EndsJudged due v = (t : Claimed) × MatchesIfTold due (Ok t) × (verdict_as v ≡ verdict_for t) × IsJudged t.claim v

@@ -40,7 +40,7 @@ said_moves before rows = record {
   hops = moves_hops before rows;
 }
 
--- What a text says, where these hops have numbers before; or its first bad line. The hops of other rows get no number, so there are never
+-- What a text says, if these hops have numbers before; or its first bad line. The hops of other rows get no number, so there are never
 -- too many of them.
 abbrev pub said_in : List Address → List ℕ → Result SaidMoves BadLine
 said_in before text = rows_by (moves_hops before) text >>= λ rows. Ok (said_moves before rows)

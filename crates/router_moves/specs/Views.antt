@@ -22,13 +22,13 @@ shortest_as m = record {
 }
 
 -- Of a family with the routes R and the table T: the changes make of the table one that answers as the routes, and no fewer do; the rows
--- prove it; and there are as many as is told.
+-- prove it; and there are as many as is reported.
 pub record IsShortest (f : Family) (R T : Entries) (n : Near) : Type 0 where
   pub shortest : AreShortest f (family_table f R) (family_table f T) (map change_as n.changes.items)
   pub proved : AreProvedShortest f (family_table f R) (family_table f T) (map change_as n.changes.items) (map row_as n.rows.items)
   pub count : length n.changes.items ≡ n.bound
 
--- For some table and routes: the changes as they are told are shortest over both families, and each family's rows prove that its own
+-- For some table and routes: the changes as they are written are shortest over both families, and each family's rows prove that its own
 -- are. In steady order no packet goes astray: while a router that has the table makes them one by one, each address is answered as by the
 -- table or as by the routes, and once it is answered as by the routes it stays so.
 pub record AreShortestFor (steady : Bool) (t : RouterTables) (m : RouterMoves) : Type 0 where
@@ -37,6 +37,6 @@ pub record AreShortestFor (steady : Bool) (t : RouterTables) (m : RouterMoves) :
   pub v4 : IsShortest V4 t.routes t.table m.v4
   pub v6 : IsShortest V6 t.routes t.table m.v6
 
--- Whatever the texts hold: what is given is what is due of some table and routes, which are those of the texts if these are told, and is shortest for them.
+-- Whatever the texts hold: what is given is what is due of some table and routes, which are those of the texts if these are known, and is shortest for them.
 abbrev pub EndsShortest : Bool → Result RouterTables TextStop → RouterMoves → Type 0
 EndsShortest steady due m = (t : RouterTables) × MatchesIfTold due (Ok t) × (shortest_as m ≡ moves_for steady t) × AreShortestFor steady t m

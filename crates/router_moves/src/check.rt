@@ -107,7 +107,8 @@ fn read_said<I: Inputs>(
 /// # Errors
 ///
 /// A text that is too large, or has a line that is no row or whose hop is the 65,535th of all texts, or, but for the last text, has a prefix
-/// twice in its rows of that kind: the first text that has, and in this order; they are texts 1, 2 and 3. A failed read, or no memory.
+/// twice in its rows of that kind: the first text that has, and in this order; they are texts 1, 2 and 3. A failed read, or out
+/// of memory.
 pub fn check_router_moves<I: Inputs>(
     alloc: Global,
     inputs: &mut I,

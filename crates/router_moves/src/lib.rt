@@ -1,6 +1,6 @@
-//! What a router must change to forward as a run's routes do: the router's table is read out of one printed text and the routes out of
-//! another, and the answer is the shortest list of changes with the rows that prove that no fewer would do. And the checker of such an
-//! answer, whoever printed it.
+//! What a router must change to forward as a run's routes do. The router's table is read out of one printed text and the routes
+//! out of another. The answer is the shortest list of changes, with the rows that prove that no fewer would do. Here is also the
+//! checker of such an answer, whoever printed it.
 //!
 //! Each text is read whole, judged, and its octets let go before the next one is read. Sorting aside, all of it is linear in the texts.
 #![tactic(auto)]

@@ -85,13 +85,13 @@ impl PrintedMoves {
 }
 
 /// The changes and the rows of the certificate that a text says; rows of other kinds must be rows, and are dropped. The hops are numbered
-/// behind those that `hops` has, in the order of their first use in these rows. Costs the text's length.
+/// after those that `hops` has, in the order of their first use in these rows. Costs the text's length.
 ///
-/// After an error some of the hops that came before it are in `hops`, behind those that it had.
+/// After an error some of the hops that came before it are in `hops`, after those that it had.
 ///
 /// # Errors
 ///
-/// `BadRow` names the first line that is no row, or whose hop would be the 65,535th in `hops`. Or no memory.
+/// `BadRow` names the first line that is no row, or whose hop would be the 65,535th in `hops`. Or out of memory.
 #[tactic(auto, using(crate::proofs::Reading::moves_start))]
 pub fn read_moves(
     alloc: Global,

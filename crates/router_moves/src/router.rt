@@ -25,7 +25,8 @@ use std::alloc::Global;
 /// # Errors
 ///
 /// A text that is too large, or has a line that is no row or whose hop is the 65,535th of both texts, or has a prefix twice in its rows
-/// of that kind: the first text that has, and in this order; the router's is text 1, the other text 2. A failed read, or no memory.
+/// of that kind: the first text that has, and in this order; the router's is text 1, the other text 2. A failed read, or out of
+/// memory.
 pub fn moves_to_routes<I: Inputs>(
     alloc: Global,
     inputs: &mut I,

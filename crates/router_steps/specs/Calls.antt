@@ -7,8 +7,8 @@ use Rattle.fib_addr.specs.declared.entry.Hop.{Hop}
 use Rattle.step_script.specs.Rows.{StepRow, opened, full, went_on, answered, not_open, stored, ended, left, cancelled, late, nothing, printed_number}
 use Rattle.step_script.specs.Machine.{World, State, Lookup, Stores, changes_family, Goes, version_of}
 
--- ---- look-ups
--- the row of a look-up that is opened
+-- ---- lookups
+-- the row of a lookup that is opened
 abbrev pub open_row : {E : Type 0} → Family → Result ℕ E → StepRow
 open_row f (Ok n) = opened (printed_number f n)
 open_row f (Err e) = full
@@ -43,7 +43,7 @@ cancel_row (Ok a) = cancelled
 cancel_row (Err e) = late
 
 -- ---- steps that concern the other family
--- the family's look-ups stay, and what is begun stays where it is of the family
+-- the family's lookups stay, and what is begun stays if it is of the family
 pub record IsElsewhere (w : World) (f : Family) (s t : State) : Type 0 where
   pub ended : t.ended ≡ s.ended
   pub lookups : (n : ℕ) → t.lookups f n ≡ s.lookups f n

@@ -9,7 +9,7 @@ use Rattle.fib_engine.specs.Stands.{EngineStands}
 use Rattle.step_script.specs.Machine.{World}
 use Rattle.router_steps.specs.World.{steps_world}
 
--- Of the world's updates these elementary events are still to come, and so many were taken, none of which brought one hop too many: the engine
+-- Of the world's updates these elementary events are still to come, and n were taken, none of which brought one hop too many: the engine
 -- stands after them.
 pub record IsEngineAt (w : World) (n : ℕ) (held : EngineState) (rest : List Elem) : Type 0 where
   pub load : List Elem

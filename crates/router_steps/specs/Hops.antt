@@ -1,4 +1,4 @@
--- The hop that is told of a number, and of which family an arena is that is too small.
+-- The hop that is named for a number, and of which family an arena is that is too small.
 use Rattle.std.specs.Prelude.{ℕ, zero, suc, List, cond, nat_eq, Option, Some, None, Result, Ok, Err}
 use Rattle.std.specs.Option.{option_or}
 use Rattle.table_model.specs.Address.{Address}

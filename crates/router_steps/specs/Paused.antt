@@ -42,13 +42,13 @@ unfoldable pub needs_before : World → Family → (Entries → ℕ) → ℕ →
 needs_before w f need zero = []
 needs_before w f need (suc n) = needs_before w f need n ++ cond (changes_family f (w.changed n)) (need (w.routes n) ∷ []) []
 
--- ---- a look-up
--- before its first go, or in its version, of which so many nodes are left
+-- ---- a lookup
+-- before its first go, or in its version, of which as many nodes are left as are due
 abbrev pub IsStage : World → Lookup → Stage → Due → Type 0
 IsStage w k stage.Word d = (k.gone ≡ 0) × (k.version ≡ None)
 IsStage w k (stage.Node i set t) d = (m : ℕ) × (k.version ≡ Some m) × (d.answer ≡ match_in (w.routes m) k.addr) × (k.gone + d.left ≡ suc (visits_of w.direct (w.routes m) k.addr))
 
--- the same look-up: its start is told by the changes of its family
+-- the same lookup: its start is given by the changes of its family
 pub record IsSameLookup (w : World) (f : Family) (k : Lookup) (c : code_lookup.Lookup) (d : Due) : Type 0 where
   pub addr : k.addr ≡ addr_as c.addr
   pub since : c.since ≡ changes_before w f k.since
@@ -75,7 +75,7 @@ pub record IsUnderWay (l : Living) (b : Begun) : Type 0 where
   pub stores : b.stores ≡ stores_in l.state l.selected
   pub made : b.made ≡ made_of l
 
--- an update is pending exactly where an event of the family is begun
+-- an update is pending exactly if an event of the family is begun
 abbrev pub IsBegun : World → Family → ℕ → Living → Option Begun → Type 0
 IsBegun w f n l None = is_pending l ≡ false
 IsBegun w f n l (Some b) = (changes_family f (w.changed n) ≡ true → IsUnderWay l b) × (changes_family f (w.changed n) ≡ false → is_pending l ≡ false)

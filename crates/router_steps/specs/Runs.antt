@@ -85,7 +85,7 @@ abbrev pub Comes : World → List Step → StepText → Stepper → Type 0
 Comes w steps text x = (rows : List StepRow) × (t : State) × Runs w at_first steps rows t × IsStepper w t x × HasWritten rows text
 
 -- ---- steps
--- the printed number of a look-up that goes on is below 128
+-- the printed number of a lookup that goes on is below 128
 abbrev pub IsPrinted : Step → Type 0
 IsPrinted (opens a) = Unit {0}
 IsPrinted (goes c) = c < 128

@@ -8,7 +8,7 @@ use Rattle.kept_model.specs.Kept.{changed_at}
 use Rattle.route_tries.specs.Sizes.{Sizes}
 use Rattle.step_script.specs.Machine.{World}
 
--- the elementary events before the one, counted from 1, that brings one hop too many; all of them where none does
+-- the elementary events before the one, counted from 1, that brings one hop too many; all of them if none does
 abbrev pub front_of : Option ℕ → List Elem → List Elem
 front_of None elems = elems
 front_of (Some n) elems = take (n - 1) elems
@@ -17,7 +17,7 @@ front_of (Some n) elems = take (n - 1) elems
 abbrev pub taken_of : (load updates : List Elem) → List Elem
 taken_of load updates = front_of (full_at (hops_after [] load) updates) updates
 
--- the candidates after the load and so many of the updates
+-- the candidates after the load and n of the updates
 abbrev pub held_after : (load updates : List Elem) → ℕ → Candidates
 held_after load updates n = after_elems (after_elems [] load) (take n (taken_of load updates))
 
@@ -31,7 +31,7 @@ changed_next held [] = None
 changed_next held (elem ∷ elems) = changed_at held elem
 
 -- The events are the elementary events of the updates in their order, up to the one that brings one hop too many, if one does. The routes
--- after so many of them are those of the candidates then, with the numbers that their hops have in the end.
+-- after n of them are those of the candidates then, with the numbers that their hops have in the end.
 abbrev pub steps_world : Sizes → (load updates : List Elem) → World
 steps_world z load updates = record {
   routes = λ n. entries_of (world_hops load updates) (held_after load updates n);

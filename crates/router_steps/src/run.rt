@@ -20,7 +20,7 @@ use step_script::{Step, StepText};
 ///
 /// # Errors
 ///
-/// At a prepare the next event brings one different hop too many, or tries need more than an arena has; or no memory.
+/// At a prepare the next event brings one different hop too many, or tries need more than an arena has; or out of memory.
 pub fn run_steps(
     alloc: Global,
     engine: Engine,

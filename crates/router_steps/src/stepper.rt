@@ -79,7 +79,7 @@ fn family_of(elem: &Elem) -> Family
     }
 }
 
-/// What is told of a family's trie that is too small: of its arenas, 0 is the nodes' and 1 the leaves'.
+/// What is said of a family's trie that is too small: of its arenas, 0 is the nodes' and 1 the leaves'.
 fn trie_full(full: fib_router::TrieFull) -> (Family, TrieFull)
     ensures family { result.0 ≡ arena_family full.arena }
     ensures arena { result.1.arena ≡ arena_within full.arena }
@@ -101,7 +101,7 @@ fn trie_full(full: fib_router::TrieFull) -> (Family, TrieFull)
     )
 }
 
-/// Keeps the token of the event that is begun, where none is.
+/// Keeps the token of the event that is begun, if none is.
 fn keep(begun: &mut Option<Begun>, event: Begun)
     requires { begun.old ≡ None }
     ensures { begun.new ≡ Some event }
@@ -117,7 +117,7 @@ impl<'a> Stepper<'a> {
     ///
     /// # Errors
     ///
-    /// No memory.
+    /// Out of memory.
     pub fn new(
         alloc: Global,
         engine: Engine,

@@ -10,8 +10,8 @@ use fib_prefix::{Elem, Event};
 use fib_router::Router;
 use std::alloc::{AllocError, Global};
 
-/// The elementary events that are still to come: those of the event at hand, and after them those of more events, which are told apart
-/// only once the first of them is due.
+/// The elementary events that are still to come: those of the event at hand, and after them those of more events, which are split
+/// off only once the first of them is due.
 #[derive(Drop)]
 pub(crate) struct Upcoming<'a> {
     elems: Vec<Elem>,
@@ -33,11 +33,11 @@ impl<'a> Upcoming<'a> {
         }
     }
 
-    /// The next one, which stays the next until it is over; none where none is left. An event that has none is passed over.
+    /// The next one, which stays the next until it is over; none if none is left. An event that has none is passed over.
     ///
     /// # Errors
     ///
-    /// No memory; what is to come stays.
+    /// Out of memory; what is to come stays.
     pub(crate) fn next(&mut self, router: &Router) -> Result<Option<Elem>, AllocError>
         ensures rest { to_come self.new router.now.held.candidates
             ≡ to_come self.old router.now.held.candidates }

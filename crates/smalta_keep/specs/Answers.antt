@@ -15,7 +15,7 @@ use Rattle.orig_tree.specs.Views.{Labels}
 abbrev pub IsAlike : Labels → Type 0
 IsAlike kept = Alike (width kept.family) (of_family kept.family kept.routes) (of_family kept.family kept.entries)
 
--- that holds where the changes after a plan's route, if it has one, are to be the fewest
+-- that holds if the changes after a plan's route, if it has one, are to be the fewest
 abbrev pub IsAlikeFor : Bool → Option (code_prefix.Prefix × code_hop.Hop) → Labels → Type 0
 IsAlikeFor false route kept = Unit {0}
 IsAlikeFor true None kept = Unit {0}

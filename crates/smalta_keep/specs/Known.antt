@@ -55,7 +55,7 @@ IsWholeSpace None = ⊥
 IsWholeSpace (Some p) = p.bits ≡ []
 
 -- after a snapshot the dirty prefixes, if there are any, are of the family; else the plan's prefix, if it has one, is marked as well, and wide
--- where the repair was one of the fewest changes; after any other repair of the whole space it is as after a snapshot
+-- if the repair was one of the fewest changes; after any other repair of the whole space it is as after a snapshot
 abbrev pub AreLeft : Bool → Bool → Family → Option Prefix → Option Labels → Option Labels → Type 0
 AreLeft true fewest f at old new = IsOfFamily f new
 AreLeft false true f at old new = IsTouchedAt at old new
@@ -67,20 +67,20 @@ held_place true fewest at = None
 held_place false true at = None
 held_place false false at = at
 
--- what a plan leaves: what was marked still is and its prefix, if it has one, is marked wide; or, where it is held, it is marked
+-- what a plan leaves: what was marked still is and its prefix, if it has one, is marked wide; or, if it is held, it is marked
 abbrev pub AreNoted : Bool → Bool → Option Prefix → Option Labels → Option Labels → Type 0
 AreNoted true fewest at old new = AreWide at old new
 AreNoted false true at old new = AreWide at old new
 AreNoted false false at old new = IsEasedAt at old new
 
--- what making a plan's changes leaves where a prefix was held: if they are those of a repair there all stays, else it was marked
+-- what making a plan's changes leaves if a prefix was held: if they are those of a repair there all stays, else it was marked
 -- wide first
 abbrev pub AreLeftHeld : Bool → Bool → Family → Option Prefix → Option Prefix → Option Labels → Option Labels → Type 0
 AreLeftHeld due fewest f at held old new =
     ((mid : Option Labels) × IsTouchedAt held old mid × AreLeft due fewest f at mid new)
     ⊎ ((due ≡ false) × (fewest ≡ false) × (held ≡ at) × (new ≡ old))
 
--- what is off the dirty prefixes is clean, where a prefix that is held, if there is one, counts as one of them in any way that serves
+-- what is off the dirty prefixes is clean, if a prefix that is held, if there is one, counts as one of them in any way that serves
 abbrev pub IsKnownHeld : Option Prefix → Labels → Option Labels → Type 0
 IsKnownHeld None kept touched = IsKnown kept touched
 IsKnownHeld (Some p) kept None = Unit {0}
@@ -94,7 +94,7 @@ KnownAt None kept touched = IsKnown kept touched
 KnownAt (Some p) kept None = Unit {0}
 KnownAt (Some p) kept (Some n) = (n.family ≡ kept.family) × (is_wide_mark (entry_at p.bits (of_family kept.family n.entries)) ≡ true) × IsSettled kept.family kept.routes kept.entries n.entries
 
--- where the repair at this prefix, if there is one, isn't to have the fewest changes, what is off the dirty prefixes is clean for routes that
+-- if the repair at this prefix, if there is one, isn't to have the fewest changes, what is off the dirty prefixes is clean for routes that
 -- differ at the prefix alone
 abbrev pub IsKnownToMend : Bool → Option Prefix → Labels → Option Labels → Type 0
 IsKnownToMend true at kept touched = Unit {0}

@@ -13,7 +13,7 @@ use Rattle.orig_tree.specs.Views.{Labels}
 abbrev pub IsSettled : Family → Entries → Entries → Entries → Type 0
 IsSettled f R T dirty = Settled (width f) (answers (of_family f R) []) (of_family f T) 0 (of_family f dirty)
 
--- that is known of a tree's routes and entries where there is a tree of dirty prefixes, whose entries are at the marked prefixes
+-- that is known of a tree's routes and entries if there is a tree of dirty prefixes, whose entries are at the marked prefixes
 abbrev pub IsKnown : Labels → Option Labels → Type 0
 IsKnown kept None = Unit {0}
 IsKnown kept (Some m) = (m.family ≡ kept.family) × IsSettled kept.family kept.routes kept.entries m.entries

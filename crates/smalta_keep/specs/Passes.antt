@@ -1,4 +1,4 @@
--- What a snapshot's pass tells of a region, and of the whole table.
+-- What a snapshot's pass lists of a region, and of the whole table.
 use Rattle.std.specs.Prelude.{◌≡◌, ℕ, [], ◌++◌, map, Option, Some, None}
 use Rattle.std.specs.List.{AllByRecursion}
 use Rattle.std.specs.Map.{keys_of}
@@ -17,7 +17,7 @@ use Rattle.orig_tree.specs.Views.{Labels}
 use Rattle.orig_tree.specs.Walk.{Walks, behind}
 use Rattle.smalta_keep.specs.declared.pass.Differing.{Differing}
 
--- at each prefix of the region at which the table and the pass under h differ both are told, behind those that there are
+-- at each prefix of the region at which the table and the pass under h differ both are listed, after those that there are
 pub record IsPass (p : Prefix) (s : Spot) (h : ℕ) (before after : Differing) : Type 0 where
   pub had : Table
   pub gets : Table

@@ -1,4 +1,4 @@
--- What a plan tells.
+-- What a plan says.
 use Rattle.std.specs.Prelude.{◌≡◌, [], Bool, true, false, cond, ◌++◌, map, Option, Some, None, option_map}
 use Rattle.std.specs.Option.{ForSome}
 use Rattle.table_model.specs.Address.{Prefix}
@@ -35,8 +35,8 @@ repaired_table true kept (Some p) = near_in kept.family kept.routes kept.entries
 abbrev pub planned_table : Bool → Labels → Option Prefix → Bool → Entries
 planned_table fewest kept at due = after_snapshot kept.family kept.routes due (repaired_table fewest kept at)
 
--- What is told are the changes to the table that the repair makes, and those from there to the table after the snapshot; together
--- they make it. The routes are the new ones, and the table is the old one.
+-- What a plan says are the changes to the table that the repair makes, and those from there to the table after the snapshot;
+-- together they make it. The routes are the new ones, and the table is the old one.
 pub record Tells (kept : Labels) (fewest : Bool) (at : Option Prefix) (due : Bool) (m : Moved) : Type 0 where
   pub repair : repair_as m ≡ between kept.entries (repaired_table fewest kept at)
   pub snapshot : snapshot_as m ≡ between (repaired_table fewest kept at) (planned_table fewest kept at due)
@@ -72,14 +72,14 @@ pub record RoutesStay (old new : Labels) : Type 0 where
   pub routes : new.routes ≡ old.routes
   pub before : new.before ≡ old.before
 
--- where the repair at this prefix, if there is one, is to have the fewest changes, the table answered as the routes did before they
+-- if the repair at this prefix, if there is one, is to have the fewest changes, the table answered as the routes did before they
 -- changed there
 abbrev pub IsBeforeAt : Bool → Option Prefix → Labels → Type 0
 IsBeforeAt false at kept = Unit {0}
 IsBeforeAt true None kept = Unit {0}
 IsBeforeAt true (Some p) kept = AlikeBefore (width kept.family) p.bits (of_family kept.family kept.routes) (of_family kept.family kept.entries)
 
--- the table, T where there is none
+-- the table, T if there is none
 abbrev pub some_or : Entries → Option Entries → Entries
 some_or T None = T
 some_or T (Some U) = U
@@ -88,7 +88,7 @@ some_or T (Some U) = U
 abbrev pub mended : Mend → Entries → Entries
 mended m T = some_or T (after_changes (map change_as m.there.items) T)
 
--- the changes from one table of a family to another, which is in order, and those back, where they are asked for; all are within
+-- the changes from one table of a family to another, which is in order, and those back, if they are asked for; all are within
 -- their reach
 pub record IsMend (f : Family) (back_too : Bool) (old new : Entries) (m : Mend) : Type 0 where
   pub old_order : InPlace old

@@ -20,7 +20,7 @@ repair_as m = map change_as m.repair.items
 abbrev pub snapshot_as : Moved → List Change
 snapshot_as m = map change_as m.snapshot.items
 
--- what a plan tells
+-- what a plan says
 abbrev pub moved_of : Repair → Moved
 moved_of r = r.moved
 

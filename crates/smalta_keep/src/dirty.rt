@@ -28,7 +28,7 @@ pub struct DirtySet {
     count: u32,
 }
 
-/// Marks a prefix wide in the tree of dirty prefixes. It takes no memory where the prefix is marked.
+/// Marks a prefix wide in the tree of dirty prefixes. It takes no memory if the prefix is marked.
 fn set_mark(dirty: &mut Tree, prefix: &Prefix) -> Result<(), AllocError>
     requires { prefix.now.family ≡ dirty.old.family }
     ensures marked { OnOk result (IsTouched (prefix_as prefix.now) (Some dirty.old) (Some dirty.new)) }
@@ -40,7 +40,7 @@ fn set_mark(dirty: &mut Tree, prefix: &Prefix) -> Result<(), AllocError>
     Ok(())
 }
 
-/// Makes a prefix's mark one that isn't wide. It takes no memory where the prefix is marked.
+/// Makes a prefix's mark one that isn't wide. It takes no memory if the prefix is marked.
 fn ease_mark(dirty: &mut Tree, prefix: &Prefix) -> Result<(), AllocError>
     requires { prefix.now.family ≡ dirty.old.family }
     ensures { OnOk result (IsEased (prefix_as prefix.now) (Some dirty.old) (Some dirty.new)) }
@@ -51,7 +51,7 @@ fn ease_mark(dirty: &mut Tree, prefix: &Prefix) -> Result<(), AllocError>
     Ok(())
 }
 
-/// The same, where there is a tree of dirty prefixes.
+/// The same, if there is a tree of dirty prefixes.
 fn ease_in(dirty: &mut Option<Tree>, prefix: &Prefix) -> Result<(), AllocError>
     requires { IsOfFamily prefix.now.family dirty.old }
     ensures { OnOk result (IsEased (prefix_as prefix.now) dirty.old dirty.new) }
@@ -62,7 +62,7 @@ fn ease_in(dirty: &mut Option<Tree>, prefix: &Prefix) -> Result<(), AllocError>
     }
 }
 
-/// Marks a prefix wide, where there is a tree of dirty prefixes.
+/// Marks a prefix wide, if there is a tree of dirty prefixes.
 fn mark_in(dirty: &mut Option<Tree>, prefix: &Prefix) -> Result<(), AllocError>
     requires { IsOfFamily prefix.now.family dirty.old }
     ensures marked { OnOk result (IsTouched (prefix_as prefix.now) dirty.old dirty.new) }
@@ -95,7 +95,7 @@ impl DirtySet {
         }
     }
 
-    /// Counts one more mark; where there would be too many, everything counts as marked.
+    /// Counts one more mark; if there would be too many, everything counts as marked.
     fn count(&mut self)
         ensures { AreMore self.old.tree self.new.tree }
     {
@@ -110,7 +110,7 @@ impl DirtySet {
     ///
     /// # Errors
     ///
-    /// No memory; then what was marked still is.
+    /// Out of memory; then what was marked still is.
     pub fn mark(&mut self, prefix: &Prefix) -> Result<(), AllocError>
         requires { IsOfFamily prefix.now.family self.old.tree }
         ensures marked { OnOk result (IsTouched (prefix_as prefix.now) self.old.tree self.new.tree) }
@@ -120,7 +120,7 @@ impl DirtySet {
         mark_in(&mut self.tree, prefix)
     }
 
-    /// Counts one more mark to come, if there is a prefix for it; where there would be too many, everything counts as marked.
+    /// Counts one more mark to come, if there is a prefix for it; if there would be too many, everything counts as marked.
     pub fn expect(&mut self, at: Option<Prefix>)
         ensures { AreMore self.old.tree self.new.tree }
     {
@@ -129,7 +129,7 @@ impl DirtySet {
         }
     }
 
-    /// Sees to it that a prefix, if there is one, is marked wide. Where there is no memory for it everything counts as marked.
+    /// Sees to it that a prefix, if there is one, is marked wide. If there is no memory for it everything counts as marked.
     pub fn keep(&mut self, at: Option<Prefix>)
         requires { ForSome at (λ p. IsOfFamily p.family self.old.tree) }
         ensures { IsTouchedAt (option_map prefix_as at) self.old.tree self.new.tree }
@@ -149,7 +149,8 @@ impl DirtySet {
         }
     }
 
-    /// Makes the dirty prefix of a prefix, if there is one, a dirty prefix that isn't wide. It takes no memory where the prefix is marked.
+    /// Makes the dirty prefix of a prefix, if there is one, a dirty prefix that isn't wide. It takes no memory if the prefix is
+    /// marked.
     pub fn ease(&mut self, at: Option<Prefix>)
         requires { ForSome at (λ p. IsOfFamily p.family self.old.tree) }
         ensures { IsEasedAt (option_map prefix_as at) self.old.tree self.new.tree }
@@ -159,7 +160,7 @@ impl DirtySet {
         }
     }
 
-    /// The same of one prefix. Where there is no memory for it everything counts as marked.
+    /// The same of one prefix. If there is no memory for it everything counts as marked.
     fn ease_one(&mut self, prefix: &Prefix)
         requires { IsOfFamily prefix.now.family self.old.tree }
         ensures { IsEased (prefix_as prefix.now) self.old.tree self.new.tree }

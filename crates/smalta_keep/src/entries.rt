@@ -12,7 +12,7 @@ use fib_delta::Change;
 use orig_tree::Tree;
 use std::alloc::AllocError;
 
-/// Whether a change takes an entry away or is at this prefix: it makes no node where the prefix is one.
+/// Whether a change takes an entry away or is at this prefix: it makes no node if the prefix is one.
 fn is_at(change: &Change, at: Option<Prefix>) -> bool
     ensures { result ≡ true → (nodes : List (List Bool)) → IsNodeAt (option_map prefix_as at) nodes
         → HasNode nodes (change_as change.now) }
@@ -23,7 +23,7 @@ fn is_at(change: &Change, at: Option<Prefix>) -> bool
     }
 }
 
-/// Whether each of the changes takes an entry away or is at this prefix: they make no node where the prefix is one.
+/// Whether each of the changes takes an entry away or is at this prefix: they make no node if the prefix is one.
 pub fn are_at(changes: &[Change], at: Option<Prefix>) -> bool
     ensures { result ≡ true → (nodes : List (List Bool)) → IsNodeAt (option_map prefix_as at) nodes
         → HaveRoom nodes (map change_as changes.now) }

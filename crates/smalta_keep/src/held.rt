@@ -57,7 +57,7 @@ fn is_made(held: Option<Prefix>, snapshot: bool, fewest: bool, at: Option<Prefix
     is_same(held, at)
 }
 
-/// What is dirty once a plan's changes are made, with this prefix held: where they are those of a repair there, it is as it was
+/// What is dirty once a plan's changes are made, with this prefix held: if they are those of a repair there, it is as it was
 /// marked; else the held one is marked wide first.
 pub fn leave(
     dirty: &mut DirtySet,

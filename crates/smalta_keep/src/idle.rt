@@ -11,7 +11,7 @@ use fib_addr::Prefix;
 use fib_delta::Change;
 use orig_tree::{Label, NodeRef, Tree};
 
-/// The prefix of an entry that a change takes away where it was made, or would have added where it wasn't.
+/// The prefix of an entry that a change takes away if it was made, or would have added if it wasn't.
 fn place_left(change: &Change, made: bool) -> Option<Prefix>
     ensures { ForSome result (λ p. p.family ≡ (place_of (change_as change.now)).family) }
 {
@@ -61,7 +61,7 @@ pub fn trim_last(tree: &mut Tree, prefix: Option<Prefix>)
     }
 }
 
-/// The same where the prefix's route was taken away: one that has a route is used.
+/// The same if the prefix's route was taken away: one that has a route is used.
 pub fn trim_cleared(tree: &mut Tree, prefix: Option<Prefix>, cleared: bool)
     requires { ForSome prefix (λ p. p.family ≡ tree.old.family) }
     ensures { ChangesNodes tree.old tree.new }
@@ -71,7 +71,7 @@ pub fn trim_cleared(tree: &mut Tree, prefix: Option<Prefix>, cleared: bool)
     }
 }
 
-/// Drops the nodes that nothing uses where changes took entries away, or where those that weren't made would have added them.
+/// Drops the nodes that nothing uses if changes took entries away, or if those that weren't made would have added them.
 pub fn trim_left(tree: &mut Tree, changes: &[Change], made: bool)
     requires { AreOf tree.old.family (map change_as changes.now) }
     ensures { ChangesNodes tree.old tree.new }

@@ -42,7 +42,7 @@ pub struct Keep {
     alloc: Global,
     tree: Tree,
     dirty: DirtySet,
-    // the prefix of the plan that is to be committed or undone, where it counts as wide dirty meanwhile
+    // the prefix of the plan that is to be committed or undone, if it counts as wide dirty meanwhile
     held: Option<Prefix>,
 }
 
@@ -86,12 +86,12 @@ impl Keep {
         }
     }
 
-    /// Those of the routes that are of the family, the last at each prefix, and an empty table. It costs the tree's nodes, where
+    /// Those of the routes that are of the family, the last at each prefix, and an empty table. It costs the tree's nodes, if
     /// the routes stand in the order of prefixes; a `put` for each would cost the nodes on each way with their sets of hops.
     ///
     /// # Errors
     ///
-    /// No memory.
+    /// Out of memory.
     pub fn load(alloc: Global, family: Family, routes: &[Entry]) -> Result<Keep, AllocError>
         requires { AllByRecursion (λ r. 1 ≤ r.1) (map entry_as routes.now) }
         ensures family { IfOk result (λ k. k.family ≡ family) }
@@ -112,7 +112,7 @@ impl Keep {
     ///
     /// # Errors
     ///
-    /// No memory.
+    /// Out of memory.
     pub fn load_from<S: EntrySource>(
         alloc: Global,
         family: Family,
@@ -134,12 +134,12 @@ impl Keep {
         })
     }
 
-    /// The routes with their least table in place of an empty one, and its entries. It costs the tree's nodes, where a snapshot
+    /// The routes with their least table in place of an empty one, and its entries. It costs the tree's nodes, while a snapshot
     /// would cost each entry's length too.
     ///
     /// # Errors
     ///
-    /// No memory.
+    /// Out of memory.
     pub fn filled(self) -> Result<(Keep, Vec<Entry>), AllocError>
         requires { self.entries ≡ [] }
         ensures family { IfOk result (λ r. r.0.family ≡ self.family) }
@@ -166,7 +166,7 @@ impl Keep {
     ///
     /// # Errors
     ///
-    /// No memory; then nothing has changed.
+    /// Out of memory; then nothing has changed.
     pub fn put(&mut self, prefix: &Prefix, hop: Hop) -> Result<(), AllocError>
         requires { prefix.now.family ≡ self.old.family }
         ensures family { self.new.family ≡ self.old.family }
@@ -187,14 +187,14 @@ impl Keep {
         Ok(())
     }
 
-    /// Plans a repair and a snapshot: gives the route's prefix this route, if there is one, or with `Hop::NONE` none, and tells
+    /// Plans a repair and a snapshot: gives the route's prefix this route, if there is one, or with `Hop::NONE` none, and returns
     /// the changes of the repair at that prefix, and then those of the snapshot, if it is due. The repair stays within the prefix,
     /// or is to have the fewest changes: then one of them may be at a prefix that holds it. The table stays. It takes all
     /// memory: the plan is to be committed or undone before anything else changes.
     ///
     /// # Errors
     ///
-    /// No memory; then routes and table are as they were.
+    /// Out of memory; then routes and table are as they were.
     pub fn plan(
         &mut self,
         route: Option<(Prefix, Hop)>,
@@ -233,7 +233,7 @@ impl Keep {
         }
     }
 
-    /// Makes the changes that were planned, where nothing changed since. It takes no memory.
+    /// Makes the changes that were planned, if nothing changed since. It takes no memory.
     pub fn commit(&mut self, repair: Repair) -> Moved
         requires { IsRepairPlanned self.old repair }
         ensures family { self.new.family ≡ self.old.family }
@@ -267,7 +267,7 @@ impl Keep {
         moved
     }
 
-    /// Puts the route back, where nothing changed since the plan: routes and table are as they were before it. It takes no
+    /// Puts the route back, if nothing changed since the plan: routes and table are as they were before it. It takes no
     /// memory.
     pub fn undo(&mut self, repair: Repair)
         requires { IsRepairPlanned self.old repair }
@@ -286,11 +286,11 @@ impl Keep {
         self.dirty.keep(former_prefix(&repair.former));
     }
 
-    /// Makes the table least for the routes, with the table as the old one, and gives the changes.
+    /// Makes the table least for the routes, with the table as the old one, and returns the changes.
     ///
     /// # Errors
     ///
-    /// No memory; then routes and table are as they were.
+    /// Out of memory; then routes and table are as they were.
     pub fn snapshot(&mut self) -> Result<Vec<Change>, AllocError>
         ensures family { self.new.family ≡ self.old.family }
         ensures routes { self.new.routes ≡ self.old.routes }
@@ -305,12 +305,12 @@ impl Keep {
         Ok(self.commit(repair).snapshot)
     }
 
-    /// Gives a prefix this route, or with `Hop::NONE` none, and repairs the table within the prefix; gives the changes. A table
+    /// Gives a prefix this route, or with `Hop::NONE` none, and repairs the table within the prefix; returns the changes. A table
     /// that answered as the routes still does.
     ///
     /// # Errors
     ///
-    /// No memory; then routes and table are as they were.
+    /// Out of memory; then routes and table are as they were.
     pub fn change(&mut self, prefix: &Prefix, now: Hop) -> Result<Vec<Change>, AllocError>
         requires { prefix.now.family ≡ self.old.family }
         ensures family { self.new.family ≡ self.old.family }
@@ -335,7 +335,7 @@ impl Keep {
     ///
     /// # Errors
     ///
-    /// No memory.
+    /// Out of memory.
     pub fn table(&self) -> Result<Vec<Entry>, AllocError>
         ensures order { InPlace self.now.entries }
         ensures table { IfOk result (λ v. map entry_as v.items ≡ self.now.entries) }
@@ -347,7 +347,7 @@ impl Keep {
     ///
     /// # Errors
     ///
-    /// No memory.
+    /// Out of memory.
     pub fn least(&self) -> Result<Fresh, AllocError>
         ensures table { IfOk result (λ v. map entry_as v.table.items
             ≡ aggregate_in self.now.family self.now.routes self.now.entries) }
@@ -363,7 +363,7 @@ impl Keep {
     ///
     /// # Errors
     ///
-    /// No memory.
+    /// Out of memory.
     pub fn least_table(&self) -> Result<Vec<Entry>, AllocError>
         ensures { IfOk result (λ v. map entry_as v.items
             ≡ aggregate_in self.now.family self.now.routes self.now.entries) }
@@ -375,7 +375,7 @@ impl Keep {
     ///
     /// # Errors
     ///
-    /// No memory; then a front of the entries was taken.
+    /// Out of memory; then the first n entries were taken, for some n.
     pub fn emit_table<S: EntrySink>(&self, out: &mut S) -> Result<(), AllocError>
         requires { S.ready out.old }
         ensures ready { OnOk result (S.ready out.new) }
@@ -388,7 +388,7 @@ impl Keep {
     ///
     /// # Errors
     ///
-    /// No memory; then a front of the entries was taken.
+    /// Out of memory; then the first n entries were taken, for some n.
     pub fn emit_least<S: EntrySink>(&self, out: &mut S) -> Result<(), AllocError>
         requires { S.ready out.old }
         ensures ready { OnOk result (S.ready out.new) }
@@ -402,7 +402,7 @@ impl Keep {
     ///
     /// # Errors
     ///
-    /// No memory; then a front of the rows was taken.
+    /// Out of memory; then the first n rows were taken, for some n.
     pub fn certify<S: RowSink>(&self, out: &mut S) -> Result<(), AllocError>
         requires { S.ready out.old }
         ensures ready { OnOk result (S.ready out.new) }

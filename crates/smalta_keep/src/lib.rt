@@ -1,9 +1,9 @@
-//! The kept table of a family: it answers as the routes do, and is repaired where they change (after Uzmi and others, 'SMALTA:
+//! The kept table of a family: it answers as the routes do, and is repaired when they change (after Uzmi and others, 'SMALTA:
 //! Practical and Near-Optimal FIB Aggregation', CoNEXT 2011; the rule of repair is our own).
 //!
-//! A `Keep` holds a tree with both labels: the routes, and the entries of the kept table. Where the route of a prefix changes,
+//! A `Keep` holds a tree with both labels: the routes, and the entries of the kept table. When the route of a prefix changes,
 //! the entries within the prefix become the least ones under what is inherited there, and all others stay; a snapshot makes
-//! the whole table least again. Both are told as changes before they are made: `plan` takes all memory and changes no entry,
+//! the whole table least again. Both are listed as changes before they are made: `plan` takes all memory and changes no entry,
 //! then `commit` makes the changes, or `undo` puts the route back.
 //!
 //! A plan may ask for the fewest changes instead: then the entries become those of the nearest table that answers as the routes
@@ -11,7 +11,7 @@
 //!
 //! A repair costs the prefix's length, and the regions within it that may change: those that no route of their own keeps from the
 //! prefix's route, those that come to inherit another hop, and those with a dirty prefix strictly within them or a wide one around them.
-//! Each prefix whose route changes is marked until the next snapshot, wide until its repair is made, or until then where that is
+//! Each prefix whose route changes is marked until the next snapshot, wide until its repair is made, or until then if that is
 //! one of the fewest changes. The snapshot goes over the wide dirty prefixes, the way to each dirty prefix, and the regions that come to inherit
 //! another hop (delta_pass). The first snapshot, and one that comes after more than 16,384 changes, goes over the whole tree.
 #![tactic(auto)]

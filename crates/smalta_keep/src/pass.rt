@@ -1,6 +1,6 @@
 //! The pass of a snapshot, and that of a repair.
 //!
-//! It goes down the tree as `ortc`'s downward pass does, and tells the entries that the table has and would get at each prefix
+//! It goes down the tree as `ortc`'s downward pass does, and lists the entries that the table has and would get at each prefix
 //! where these differ. It leaves out a region that is off the dirty prefixes, gets from the routes what it got, and inherits the hop that it
 //! inherits in the table.
 
@@ -41,7 +41,7 @@ pub struct Differing {
     pub gets: Vec<Entry>,
 }
 
-/// Both hops where they differ, else none.
+/// Both hops if they differ, else none.
 fn if_differing(old: Option<u16>, new: Option<u16>) -> (Option<u16>, Option<u16>)
     ensures { BothOrNeither old new result.0 result.1 }
 {
@@ -55,7 +55,7 @@ fn below(label: Option<u16>, inherited: u16) -> u16
     label.unwrap_or(inherited)
 }
 
-/// The entries of the region of a prefix where they differ, behind those that there are.
+/// The entries of the region of a prefix where they differ, after those that there are.
 fn list_differing(
     place: &Place<'_>,
     prefix: Prefix,
@@ -128,7 +128,7 @@ fn go_over(alloc: Global, tree: &Tree, dirty: &Option<Tree>) -> Result<Differing
 ///
 /// # Errors
 ///
-/// No memory.
+/// Out of memory.
 pub fn differing_within(
     alloc: Global,
     tree: &Tree,
@@ -169,7 +169,7 @@ pub fn differing_within(
 ///
 /// # Errors
 ///
-/// No memory.
+/// Out of memory.
 pub fn snapshot_delta(
     alloc: Global,
     tree: &Tree,

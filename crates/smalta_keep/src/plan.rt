@@ -1,6 +1,6 @@
-//! Plans: a plan's route is set, what is to change is told, and room is made for it.
+//! Plans: a plan's route is set, what is to change is listed, and room is made for it.
 //!
-//! Setting a route is most of what a plan costs, so it is set once where all that changes is at its own prefix, which is a node
+//! Setting a route is most of what a plan costs, so it is set once if all that changes is at its own prefix, which is a node
 //! then, or is taken away. A node that is made for another change would end the putting back (orig_tree): before that the route is
 //! put back, and it is set again after it.
 
@@ -30,7 +30,7 @@ use fib_delta::Change;
 use orig_tree::Tree;
 use std::alloc::{AllocError, Global};
 
-/// What a plan is to tell.
+/// What a plan is to list.
 #[derive(Clone, Copy)]
 pub struct Due {
     /// Whether the repair is to have the fewest changes.
@@ -43,7 +43,7 @@ pub struct Due {
 ///
 /// # Errors
 ///
-/// No memory; then the route is put back.
+/// Out of memory; then the route is put back.
 fn mend_set(
     alloc: Global,
     tree: &mut Tree,
@@ -72,12 +72,12 @@ fn mend_set(
     }
 }
 
-/// Sees to it that there is room for changes, with a plan's route set. Where a node may have to be made it is put back, and set
+/// Sees to it that there is room for changes, with a plan's route set. If a node may have to be made it is put back, and set
 /// again.
 ///
 /// # Errors
 ///
-/// No memory; then the route is put back.
+/// Out of memory; then the route is put back.
 fn with_room(
     tree: &mut Tree,
     route: Option<(Prefix, Hop)>,
@@ -104,7 +104,7 @@ fn with_room(
 ///
 /// # Errors
 ///
-/// No memory; then the route is put back.
+/// Out of memory; then the route is put back.
 fn snapshot_after(
     alloc: Global,
     tree: &mut Tree,
@@ -137,12 +137,12 @@ fn snapshot_after(
     }
 }
 
-/// Sets a plan's route, if it has one, and tells the changes of the repair at its prefix and of the snapshot after it, if one is
-/// due, with room for them. The entries stay. The prefix and what the repair changes are marked wide.
+/// Sets a plan's route, if it has one, and returns the changes of the repair at its prefix and of the snapshot after it, if one
+/// is due, with room for them. The entries stay. The prefix and what the repair changes are marked wide.
 ///
 /// # Errors
 ///
-/// No memory; then the routes are as they were.
+/// Out of memory; then the routes are as they were.
 pub fn plan_moves(
     alloc: Global,
     tree: &mut Tree,

@@ -28,7 +28,7 @@ fn join(left: Prefix, right: Prefix) -> Prefix
     }
 }
 
-/// A prefix that a prefix and all changes are within. It is the prefix itself where they are within it, and that of a change where
+/// A prefix that a prefix and all changes are within. It is the prefix itself if they are within it, and that of a change if
 /// this holds the prefix and all others.
 pub fn reach_of(prefix: &Prefix, changes: &[Change]) -> Prefix
     requires { AreOf prefix.now.family (map change_as changes.now) }

@@ -1,4 +1,4 @@
-//! What a plan tells and keeps.
+//! What a plan lists and keeps.
 
 ghost use Rattle.std.specs.Prelude.{◌≡◌, [], false, None};
 ghost use Rattle.smalta_keep.specs.Views.{moved_of};

@@ -65,7 +65,7 @@ fn exchange(tree: &mut Tree, prefix: &Prefix, hop: Hop) -> Result<Option<Hop>, A
     }
 }
 
-/// The same; what the prefix had is told, and can be put back.
+/// The same; what the prefix had is returned, and can be put back.
 fn replace(tree: &mut Tree, prefix: &Prefix, hop: Hop) -> Result<Former, AllocError>
     requires { prefix.now.family ≡ tree.old.family }
     ensures keeps { KeepsEntries tree.old tree.new }

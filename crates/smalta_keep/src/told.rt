@@ -1,4 +1,4 @@
-//! The changes of repairs and snapshots, told before they are made.
+//! The changes of repairs and snapshots, found before they are made.
 
 ghost use Rattle.std.specs.Prelude.{◌≡◌, [], false, Some, IfOk, cond, map, option_map};
 ghost use Rattle.std.specs.Option.{ForSome};

@@ -1,4 +1,4 @@
--- What a run in steps may do: look-ups that pause between their reads, beside events whose stores are made one by one. It is told over lists of
+-- What a run in steps may do: lookups that pause between their reads, beside events whose stores are made one by one. It is defined over lists of
 -- routes alone. A run is a list of rows that the machine allows, step by step.
 use Rattle.std.specs.Prelude.{◌≡◌, ◌≢◌, ◌↔◌, ◌⊎◌, ℕ, zero, suc, ◌+◌, ◌*◌, ◌^◌, ◌<◌, ◌≤◌, List, [], ◌∷◌, ◌++◌, Bool, true, false, ◌&&◌, cond, nat_eq, nat_lt, length, take, Option, Some, None}
 use Rattle.std.specs.List.{list_any}
@@ -13,7 +13,7 @@ use Rattle.step_script.specs.Rows.{StepRow, opened, full, went_on, answered, not
 
 -- ---- what happens
 
--- The routes after so many ended events, and the hops that have numbers, in the order of numbers; the events that there are, whether one more follows
+-- The routes after n ended events, and the hops that have numbers, in the order of numbers; the events that there are, whether one more follows
 -- that brings one different hop too many, and for each number of ended events the prefix at which the next one changes a chosen hop, if it
 -- does; how many direct bits the tries have, and the orders of their arenas.
 pub record World : Type 0 where
@@ -37,7 +37,7 @@ pub record Begun : Type 0 where
   pub stores : Stores
   pub made : ℕ
 
--- An open look-up: its address, how many events had ended when it was opened, and how often it went on. The version in which it goes on is
+-- An open lookup: its address, how many events had ended when it was opened, and how often it went on. The version in which it goes on is
 -- the number of events after which routes have its answer, from its first go on.
 pub record Lookup : Type 0 where
   pub addr : Address
@@ -45,7 +45,7 @@ pub record Lookup : Type 0 where
   pub gone : ℕ
   pub version : Option ℕ
 
--- how many events have ended, the one that is begun, and the open look-ups of each family by number
+-- how many events have ended, the one that is begun, and the open lookups of each family by number
 pub record State : Type 0 where
   pub ended : ℕ
   pub begun : Option Begun
@@ -55,7 +55,7 @@ pub record State : Type 0 where
 abbrev pub at_first : State
 at_first = record { ended = 0; begun = None; lookups = λ f n. None }
 
--- the look-ups with this one of a number, or without it
+-- the lookups with this one of a number, or without it
 abbrev pub with_lookup : Family → ℕ → Option Lookup → (Family → ℕ → Option Lookup) → Family → ℕ → Option Lookup
 with_lookup f n k lookups g m = cond (same_family f g && nat_eq n m) k (lookups g m)
 
@@ -82,14 +82,14 @@ Ascends (v ∷ u ∷ more) = (v < u) × Ascends (u ∷ more)
 abbrev pub AreChanges : World → ℕ → Family → List ℕ → Type 0
 AreChanges w n f slots = Ascends slots × ((v : ℕ) → (list_any (nat_eq v) slots ≡ true) ↔ Differs w n f v)
 
--- what the next event stores: nothing where it changes no chosen hop, else these words or the selector
+-- what the next event stores: nothing if it changes no chosen hop, else these words or the selector
 abbrev pub MayStore : World → ℕ → Option Prefix → Stores → Type 0
 MayStore w n None (words slots) = slots ≡ []
 MayStore w n None selector = ⊥
 MayStore w n (Some p) (words slots) = AreChanges w n p.family slots
 MayStore w n (Some p) selector = Unit {0}
 
--- whether one of the first so many stores covers the slot
+-- whether one of the first n stores covers the slot
 abbrev pub covers : Stores → ℕ → ℕ → Bool
 covers (words slots) made v = list_any (nat_eq v) (take made slots)
 covers selector made v = nat_lt 0 made
@@ -105,11 +105,11 @@ abbrev pub is_stored : World → State → Option Begun → Address → Bool
 is_stored w s None a = false
 is_stored w s (Some b) a = changes_family a.family (w.changed s.ended) && covers b.stores b.made (direct_slot w a)
 
--- the number of events that are published to an address: one more than have ended where a store that was made covers its slot
+-- the number of events that are published to an address: one more than have ended if a store that was made covers its slot
 abbrev pub published : World → State → Address → ℕ
 published w s a = cond (is_stored w s s.begun a) (suc s.ended) s.ended
 
--- the version of a look-up at its next go: the one published then, at its first
+-- the version of a lookup at its next go: the one published then, at its first
 abbrev pub version_at : World → State → Lookup → Option ℕ → ℕ
 version_at w s k None = published w s k.addr
 version_at w s k (Some m) = m
@@ -129,11 +129,11 @@ unfoldable pub needs_between : World → Family → (Entries → ℕ) → ℕ �
 needs_between w f need n zero = 0
 needs_between w f need n (suc m) = cond (changes_family f (w.changed (n + m))) (need (w.routes (n + suc m))) 0 + needs_between w f need n m
 
--- an arena of this order has at most 64 places for each that the family's routes needed since so many ended events, and will need
+-- an arena of this order has at most 64 places for each that the family's routes needed since n ended events, and will need
 abbrev pub IsCrowded : World → Family → (Entries → ℕ) → (order from now : ℕ) → Type 0
 IsCrowded w f need order from now = (gap : ℕ) × (from + gap ≡ now) × (2 ^ order ≤ 64 * (need (w.routes from) + needs_between w f need from gap + need (w.routes (suc now))))
 
--- tries of the family's routes after so many events have room
+-- tries of the family's routes after n events have room
 abbrev pub HasRoom : World → Family → ℕ → Type 0
 HasRoom w f n = (node_need f w.direct (w.routes n) ≤ 2 ^ w.nodes) × (leaf_need f w.direct (w.routes n) ≤ 2 ^ w.leaves)
 
@@ -142,7 +142,7 @@ abbrev pub HasRoomNext : World → ℕ → Option Prefix → Type 0
 HasRoomNext w n None = Unit {0}
 HasRoomNext w n (Some p) = HasRoom w p.family (suc n)
 
--- the look-up of this number may hold what the next event, of its family, would need: no other of the family is before it, by the changes
+-- the lookup of this number may hold what the next event, of its family, would need: no other of the family is before it, by the changes
 -- that had ended when it was opened and then by number; at least one has ended since; the needs after the event fit; and an arena is crowded
 pub record MayPin (w : World) (s : State) (f : Family) (n : ℕ) (k : Lookup) : Type 0 where
   pub held : s.lookups f n ≡ Some k
@@ -222,7 +222,7 @@ Takes w s stores row t = StoresOne s s.begun row t
 Takes w s ends row t = EndsEvent s s.begun row t
 Takes w s cancels row t = Cancels s s.begun row t
 
--- a look-up after a step: it was closed, or has the same address, start and, if it had one, version
+-- a lookup after a step: it was closed, or has the same address, start and, if it had one, version
 abbrev pub SameVersion : Option ℕ → Option ℕ → Type 0
 SameVersion None now = Unit {0}
 SameVersion (Some m) now = now ≡ Some m
@@ -247,7 +247,7 @@ pub record IsHopsFull (w : World) (s : State) : Type 0 where
   pub full : w.is_full ≡ true
 
 -- No event is begun, and tries of the routes of the family of which the next one changes a chosen hop need this many places after it, more
--- than this arena has: 0 is the family's nodes', 1 its leaves', of which the first is told.
+-- than this arena has: 0 is the family's nodes', 1 its leaves', of which the first is named.
 pub record IsTrieFull (w : World) (s : State) (f : Family) (arena need have : ℕ) : Type 0 where
   pub quiet : s.begun ≡ None
   pub next : s.ended < w.events

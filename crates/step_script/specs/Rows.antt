@@ -5,8 +5,8 @@ use Rattle.table_model.specs.declared.family.Family.{Family}
 use Rattle.table_model.specs.declared.family.Family.TheVariants.{V4, V6}
 use Rattle.printed_text.specs.Rows.{hop_text, line}
 
--- What became of a step. A number is a look-up's printed one. An opened look-up got its number, or 64 of its family are open; a look-up that
--- went on was led to a node, or to its answer, a hop or none, or isn't open; an event was prepared, or waits for a look-up that holds
+-- What became of a step. A number is a lookup's printed one. An opened lookup got its number, or 64 of its family are open; a lookup that
+-- went on was led to a node, or to its answer, a hop or none, or isn't open; an event was prepared, or waits for a lookup that holds
 -- what it would need, or for the event that is begun; a store was made; an event was ended, or has stores left; was cancelled, or made
 -- a store before. Nothing: no event is left or none is begun, or no store is left.
 pub data StepRow : Type 0 where
@@ -25,7 +25,7 @@ pub data StepRow : Type 0 where
   late : StepRow
   nothing : StepRow
 
--- the printed number of a look-up: numbers count from 0 in each family, and 64 is added to an IPv6 one's
+-- the printed number of a lookup: numbers count from 0 in each family, and 64 is added to an IPv6 one's
 abbrev pub printed_number : Family → ℕ → ℕ
 printed_number V4 n = n
 printed_number V6 n = n + 64

@@ -7,7 +7,7 @@ use Rattle.fib_addr.specs.Text.{number_below}
 use Rattle.printed_text.specs.Reading.{address_field, bad_count, bad_number, bad_word, next_field, one_field, or_why}
 use Rattle.printed_text.specs.Texts.{BadLine, line_texts}
 
--- A step: a look-up of an address is opened; the open look-up of this printed number goes on by one read; the next event is prepared; the
+-- A step: a lookup of an address is opened; the open lookup of this printed number goes on by one read; the next event is prepared; the
 -- event that was begun makes its next store, is ended, or is cancelled.
 pub data Step : Type 0 where
   opens : Address → Step
@@ -23,7 +23,7 @@ pub data Step : Type 0 where
 abbrev pub is_space : ℕ → Bool
 is_space b = b == 32
 
--- the printed number of a look-up
+-- the printed number of a lookup
 abbrev pub cursor_field : List ℕ → Result ℕ ℕ
 cursor_field text = or_why bad_number (number_below 128 text)
 

@@ -35,7 +35,7 @@ impl<T: Drop> From<AllocFailed<T>> for ScriptError {
 ///
 /// # Errors
 ///
-/// `BadLine` names the first line that is neither empty nor a step; or no memory.
+/// `BadLine` names the first line that is neither empty nor a step; or out of memory.
 #[tactic(auto, using(crate::proofs::Lines::starts))]
 pub fn read_script(alloc: Global, text: &[u8]) -> Result<Vec<Step>, ScriptError>
     ensures { IsScriptRead result (script_in text.now) }

@@ -12,9 +12,9 @@ use printed_text::why;
 /// A step of a run.
 #[derive(Clone, Copy, Debug, PartialEq, Eq)]
 pub enum Step {
-    /// A look-up of this address is opened.
+    /// A lookup of this address is opened.
     Open(Addr),
-    /// The open look-up of this printed number, below 128, goes on by one read.
+    /// The open lookup of this printed number, below 128, goes on by one read.
     Go(u8),
     /// The next event is prepared.
     Prepare,
@@ -38,7 +38,7 @@ fn bare_step(step: Step, fields: Fields<'_>) -> Result<Step, u8>
     }
 }
 
-/// The printed number of a look-up.
+/// The printed number of a lookup.
 fn cursor(text: &[u8]) -> Result<u8, u8>
     ensures { Gives (λ n. n) result (cursor_field text.now) }
 {

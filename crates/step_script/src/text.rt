@@ -6,7 +6,7 @@
 //!     step,N,stored                step,N,ended              step,N,left
 //!     step,N,cancelled             step,N,late               step,N,nothing
 //!
-//! LOOKUP is the number of a look-up, HOP the hop's address or `none`.
+//! LOOKUP is the number of a lookup, HOP the hop's address or `none`.
 
 ghost use Rattle.std.specs.Prelude.{◌≡◌, ◌∷◌, ◌++◌, ◌+◌, ◌<◌, ◌^◌, List, [], codes, decimal, option_map, IfOk, OnOk};
 ghost use Rattle.fib_addr.specs.Views.{addr_as};
@@ -34,7 +34,7 @@ fn put_word<W: Write + Drop>(out: &mut Writer<W>, step: u64, word: &[u8]) -> Res
     put_fields(out, &[b"step", step, word])
 }
 
-/// Writes a row of a word and a look-up.
+/// Writes a row of a word and a lookup.
 fn put_lookup<W: Write + Drop>(
     out: &mut Writer<W>,
     step: u64,
@@ -52,7 +52,7 @@ fn put_lookup<W: Write + Drop>(
     put_fields(out, &[b"step", step, word, lookup])
 }
 
-/// Writes a row of a look-up's answer.
+/// Writes a row of a lookup's answer.
 fn put_answer<W: Write + Drop>(
     out: &mut Writer<W>,
     step: u64,
@@ -122,7 +122,7 @@ impl StepText {
     ///
     /// # Errors
     ///
-    /// No memory.
+    /// Out of memory.
     pub fn put(&mut self, row: Row) -> Result<(), AllocError>
         requires few { self.old.steps + 1 < 2 ^ 64 }
         requires so_far { (rows : List StepRow) × HasWritten rows self.old }
@@ -140,7 +140,7 @@ impl StepText {
     ///
     /// # Errors
     ///
-    /// No memory.
+    /// Out of memory.
     pub fn finish(self) -> Result<Vec<u8>, AllocError>
         ensures { IfOk result (λ text. (rows : List StepRow) → HasWritten rows self
             → text.items ≡ rows_text 1 rows) }

@@ -18,7 +18,7 @@ additions L = map (λ e. Add e.0 e.1) L
 abbrev pub is_held : Prefix → Entries → Bool
 is_held p L = is_some (lookup (same_prefix p) L)
 
--- the table after the change: an Add only where the prefix isn't held, the others only where it is
+-- the table after the change: an Add only if the prefix isn't held, the others only if it is
 abbrev pub after_change : Change → Entries → Option Entries
 after_change (Add p h) L = cond (is_held p L) None (Some (with_entry L (p, h)))
 after_change (Replace p h) L = cond (is_held p L) (Some (with_entry L (p, h))) None

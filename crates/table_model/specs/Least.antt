@@ -35,8 +35,8 @@ IsBest w R p h =
     IsTrue (is_in h (candidates R))
     × ((g k l : ℕ) → IsTrue (is_in g (candidates R)) → IsCost w R p h k → IsCost w R p g l → k ≤ l)
 
--- What stands at p, where the old entry there is known and h is inherited: no entry where h is best, else an entry
--- whose hop is best: the old one where that is best, else the least.
+-- What stands at p, if the old entry there is known and h is inherited: no entry if h is best, else an entry
+-- whose hop is best: the old one if that is best, else the least.
 abbrev pub IsOwn : ℕ → Table → List Bool → Option ℕ → ℕ → Option ℕ → Type 0
 IsOwn w R p old h o =
     (IsBest w R p h → o ≡ None)

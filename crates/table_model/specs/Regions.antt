@@ -18,7 +18,7 @@ outside p L = filter (λ e. not (begins p e.prefix)) L
 abbrev pub strictly_containing : List Bool → Table → Table
 strictly_containing p L = filter (λ e. begins e.prefix p && not (begins p e.prefix)) L
 
--- what p inherits: the hop of the longest entry that p is strictly within, or h where there is none
+-- what p inherits: the hop of the longest entry that p is strictly within, or h if there is none
 abbrev pub above : List Bool → Table → ℕ → ℕ
 above p L h = hop_or h (longest (strictly_containing p L))
 

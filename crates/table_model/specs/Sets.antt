@@ -1,5 +1,5 @@
--- The passes over the regions of a table (Draves and others, section 3): up, where each region gets a set of hops from
--- those of its halves, and down, where a region gets an entry where what it inherits isn't in its set.
+-- The passes over the regions of a table (Draves and others, section 3): up: each region gets a set of hops from
+-- those of its halves; and down: a region gets an entry if what it inherits isn't in its set.
 use Rattle.std.specs.Prelude.{ℕ, zero, suc, ◌+◌, List, [], ◌∷◌, ◌++◌, Bool, true, false, cond, Option, Some, None, nat_eq, min}
 use Rattle.std.specs.List.{filter, list_any}
 use Rattle.table_model.specs.Table.{Table, lpm, root, half, inherit}
@@ -13,12 +13,12 @@ is_in h S = list_any (λ g. nat_eq g h) S
 abbrev pub common : List ℕ → List ℕ → List ℕ
 common S T = filter (λ h. is_in h T) S
 
--- the first list, or the second where the first is empty
+-- the first list, or the second if the first is empty
 abbrev pub or_else : List ℕ → List ℕ → List ℕ
 or_else [] T = T
 or_else (g ∷ S) T = g ∷ S
 
--- the common hops, or where there are none all hops
+-- the common hops, or, if there are none, all hops
 abbrev pub joint : List ℕ → List ℕ → List ℕ
 joint S T = or_else (common S T) (S ++ T)
 
@@ -27,7 +27,7 @@ abbrev pub one_if_empty : List ℕ → ℕ
 one_if_empty [] = 1
 one_if_empty (g ∷ S) = 0
 
--- 1 where the sets have no hop in common
+-- 1 if the sets have no hop in common
 abbrev pub apart : List ℕ → List ℕ → ℕ
 apart S T = one_if_empty (common S T)
 
@@ -51,12 +51,12 @@ smallest [] = 0
 smallest (g ∷ []) = g
 smallest (g ∷ k ∷ S) = min g (smallest (k ∷ S))
 
--- the old hop where it is in the set, else the least number
+-- the old hop if it is in the set, else the least number
 abbrev pub pick : List ℕ → Option ℕ → ℕ
 pick S None = smallest S
 pick S (Some g) = cond (is_in g S) g (smallest S)
 
--- an entry exactly where the inherited hop is not in the set
+-- an entry exactly if the inherited hop is not in the set
 abbrev pub own : List ℕ → Option ℕ → ℕ → Option ℕ
 own S old h = cond (is_in h S) None (Some (pick S old))
 

@@ -11,7 +11,7 @@ pub record Entry : Type 0 where
 abbrev pub Table : Type 0
 Table = List Entry
 
--- the longer of two entries, the first where they are equally long
+-- the longer of two entries, the first if they are equally long
 abbrev pub longer : Entry → Option Entry → Entry
 longer e None = e
 longer e (Some f) = cond (nat_lt (length e.prefix) (length f.prefix)) f e
@@ -21,7 +21,7 @@ abbrev pub longest : Table → Option Entry
 longest [] = None
 longest (e ∷ L) = Some (longer e (longest L))
 
--- the hop of the entry, or h where there is none
+-- the hop of the entry, or h if there is none
 abbrev pub hop_or : ℕ → Option Entry → ℕ
 hop_or h None = h
 hop_or h (Some e) = e.hop
@@ -30,7 +30,7 @@ hop_or h (Some e) = e.hop
 abbrev pub containing : List Bool → Table → Table
 containing a L = filter (λ e. begins e.prefix a) L
 
--- longest match (RFC 1812, 5.2.4.3): of the entries that contain the address the longest one's hop, or h where none does
+-- longest match (RFC 1812, 5.2.4.3): of the entries that contain the address the longest one's hop, or h if none does
 abbrev pub lpm : Table → List Bool → ℕ → ℕ
 lpm L a h = hop_or h (longest (containing a L))
 
@@ -49,7 +49,7 @@ Alike w L M = (a : List Bool) → length a ≡ w → lpm L a 0 ≡ lpm M a 0
 
 -- ---- a table cut at its first bit
 
--- g where the prefix is empty, else o
+-- g if the prefix is empty, else o
 abbrev pub root_of : List Bool → ℕ → Option ℕ → Option ℕ
 root_of [] g o = Some g
 root_of (b ∷ p) g o = o

@@ -24,7 +24,7 @@ pub fn joining_law()
         IsTable (w + 1) (join o L M) × (root (join o L M) ≡ o) × (half false (join o L M) ≡ L) × (half true (join o L M) ≡ M) }
 {}
 
-/// The cost of a region is its k where the inherited hop is in its set, else one more.
+/// The cost of a region is its k if the inherited hop is in its set, else one more.
 pub fn cost_law()
     ensures { (w : ℕ) (R : Table) (p : List Bool) (h : ℕ) → length p ≤ w →
         IsCost w R p h (cond (is_in h (set_at w R p)) (k_at w R p) (k_at w R p + 1)) }
@@ -36,7 +36,7 @@ pub fn best_law()
         → IsTrue (is_in h (set_at w R p)) ↔ IsBest w R p h }
 {}
 
-/// Where all answers of a region are one, its set is that answer, and its k is 0.
+/// If all answers of a region are one, its set is that answer, and its k is 0.
 pub fn leaf_law()
     ensures { (w : ℕ) (R : Table) (p : List Bool) (h : ℕ) → length p ≤ w → ((a : List Bool) → length (p ++ a) ≡ w → lpm R (p ++ a) 0 ≡ h) →
         (set_at w R p ≡ h ∷ []) × (k_at w R p ≡ 0) }
@@ -49,7 +49,7 @@ pub fn join_law()
         × (k_at w R p ≡ k_at w R (p ++ (false ∷ [])) + k_at w R (p ++ (true ∷ [])) + apart (set_at w R (p ++ (false ∷ []))) (set_at w R (p ++ (true ∷ [])))) }
 {}
 
-/// At each prefix within the region the aggregate has an entry exactly where the set lacks the hop that is inherited there.
+/// At each prefix within the region the aggregate has an entry exactly if the set lacks the hop that is inherited there.
 pub fn entry_law()
     ensures { (w : ℕ) (R : Table) (p q : List Bool) (h : ℕ) (old : Table) → length (p ++ q) ≤ w →
         entry_at (p ++ q) (aggregate w R p h old) ≡ own (set_at w R (p ++ q)) (entry_at (p ++ q) old) (above (p ++ q) (aggregate w R p h old) h) }
@@ -127,7 +127,7 @@ pub fn aggregate_order_law()
         → IsStrictlySortedBy prefix_cmp (keys_of (of_table f L)) }
 {}
 
-/// A family's aggregate, told as entries, is the aggregate by its definition. The table of both families' aggregates is the
+/// A family's aggregate, as a list of entries, is the aggregate by its definition. The table of both families' aggregates is the
 /// aggregate in each, and stands in the order of prefixes; no other table does both.
 pub fn both_law()
     ensures family { (f : Family) (R old : Entries) →

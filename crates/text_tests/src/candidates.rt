@@ -4,7 +4,7 @@ use fib_prefix::{Addr, Cand, Elem, Peer, Prefix, Via};
 use route_choice::Candidates;
 use std::test::Fail;
 
-/// 10.0.0.0 with so many bits.
+/// 10.0.0.0 with `len` bits.
 fn ten(len: u8) -> Prefix {
     Prefix::new(&Addr::v4(10 << 24), len.min(32))
 }

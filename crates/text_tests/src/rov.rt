@@ -33,7 +33,7 @@ const ROWS: &[Row] = &[
     (LIST, 12, Some(1), State::Invalid(1)),
 ];
 
-/// 10.0.0.0 with so many bits.
+/// 10.0.0.0 with `len` bits.
 fn ten(len: u8) -> Prefix {
     Prefix::new(&Addr::v4(10 << 24), len.min(32))
 }

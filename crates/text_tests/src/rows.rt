@@ -16,7 +16,7 @@ fn text_of(alloc: Global, rows: &[Row]) -> Result<Vec<u8>, AllocError> {
 
 #[test]
 fn rows_are_numbered_from_one(rt: HostRuntime) -> Result<(), Fail> {
-    // What stands behind the number of a step.
+    // What stands after the number of a step.
     let cases: [(Row, &str); 17] = [
         (Row::Opened(0), "open,0"),
         (Row::Full, "full"),

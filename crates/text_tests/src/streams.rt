@@ -12,7 +12,7 @@ use std::fs::{self, File};
 use std::io::{self, ErrorKind, Write};
 use std::test::Fail;
 
-/// A writer that takes so many octets at most and counts them, and whose flush may fail.
+/// A writer that takes `most` octets at most and counts them, and whose flush may fail.
 #[derive(Drop)]
 struct Pipe<'a> {
     most: usize,

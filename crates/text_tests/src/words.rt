@@ -15,9 +15,9 @@ enum Asked<'a> {
     Run(&'a str, Option<&'a str>, Option<&'a str>, u32, [u8; 3]),
     /// The names of the dump and of the list of VRPs, in a run that names one.
     Judged(&'a str, &'a str),
-    /// The name of the dump, in a run whose events make the fewest changes, and whether they are told in steady order.
+    /// The name of the dump, in a run whose events make the fewest changes, and whether they come in steady order.
     Fewest(&'a str, bool),
-    /// The name of the dump, in a run whose changes are told in steady order.
+    /// The name of the dump, in a run whose changes come in steady order.
     Steadily(&'a str),
     Check(&'a str),
     /// How many routes, and the seed.
@@ -28,7 +28,7 @@ enum Asked<'a> {
     Same(&'a str, &'a [&'a str], Kind),
     /// The names of the dump and the updates.
     Save(&'a str, Option<&'a str>),
-    /// The names of the router's text and of the printed one, and whether the changes are told in steady order.
+    /// The names of the router's text and of the printed one, and whether the changes come in steady order.
     Moves(&'a str, &'a str, bool),
     /// The names of both texts and of the one with the changes.
     CheckMoves(&'a str, &'a str, &'a str),

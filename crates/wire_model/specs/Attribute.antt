@@ -23,7 +23,7 @@ pub record Unreached : Type 0 where
   pub family : Family
   pub nlri : List Nlri
 
--- what stood in an attribute list so far; of AS_PATH and NEXT_HOP the value, or none where it isn't of its form
+-- what stood in an attribute list so far; of AS_PATH and NEXT_HOP the value, or none if it isn't of its form
 pub record Found : Type 0 where
   pub path : Option (Option Path)
   pub hop : Option (Option Address)
@@ -41,7 +41,7 @@ nothing_found = record { path = None; hop = None; has_reach = false; reach = Non
 abbrev pub hop_of : List ℕ → Address
 hop_of octets = if length octets == 4 then record { family = V4; bits = octet_bits octets } else record { family = V6; bits = octet_bits (take 16 octets) }
 
--- the lengths of a next hop: 4 for IPv4 (RFC 4271, 5.1.3); 16, or 32 with a link-local address behind it, for IPv6 (RFC 2545, 3), and for IPv4 prefixes with an IPv6 next hop (RFC 8950, 3)
+-- the lengths of a next hop: 4 for IPv4 (RFC 4271, 5.1.3); 16, or 32 with a link-local address after it, for IPv6 (RFC 2545, 3), and for IPv4 prefixes with an IPv6 next hop (RFC 8950, 3)
 abbrev pub is_hop_length : Family → ℕ → Bool
 is_hop_length V4 n = n == 4 || n == 16 || n == 32
 is_hop_length V6 n = n == 16 || n == 32
@@ -153,11 +153,11 @@ with_value place found kind value =
 
 -- ---- the list
 
--- a second MP_REACH_NLRI, or a second MP_UNREACH_NLRI where the list uses it (RFC 7606, 3 (g))
+-- a second MP_REACH_NLRI, or a second MP_UNREACH_NLRI if the list uses it (RFC 7606, 3 (g))
 abbrev pub is_second : Found → ℕ → Bool
 is_second found kind = (found.has_reach && kind == 14) || (found.has_unreach && kind == 15)
 
--- An attribute (RFC 4271, 4.3): flags, a type, which isn't that of a second MP attribute, a length of two octets where flag 16 is set and else of one, the value.
+-- An attribute (RFC 4271, 4.3): flags, a type, which isn't that of a second MP attribute, a length of two octets if flag 16 is set and else of one, the value.
 unfoldable pub attribute_at : Place → Found → List ℕ → Result (Found × List ℕ) Rule
 attribute_at place found octets = do
   flags ← octet_at AttributeCut octets
@@ -181,7 +181,7 @@ abbrev pub is_bad : {A : Type 0} → Option (Option A) → Bool
 is_bad (Some None) = true
 is_bad found = false
 
--- Without AS_PATH the length is 0, and there is no origin. A list is bad where the first AS_PATH or the first NEXT_HOP isn't of its form: it has neither length nor origin nor next hop then.
+-- Without AS_PATH the length is 0, and there is no origin. A list is bad if the first AS_PATH or the first NEXT_HOP isn't of its form: it has neither length nor origin nor next hop then.
 abbrev pub listed_from : Found → Listed
 listed_from found =
     let bad = is_bad found.path || is_bad found.hop in

@@ -1,4 +1,4 @@
--- A whole input: records one after another, each read behind those before it.
+-- A whole input: records one after another, each read after those before it.
 use Rattle.std.specs.Prelude.{ℕ, ◌+◌, List, [], ◌++◌, Option, Some, None, Result, Ok, Err, Bool, true, false, ◌==◌, ◌||◌, ◌&&◌, if◌then◌else◌}
 use Rattle.table_model.specs.declared.family.Family.{Family}
 use Rattle.table_model.specs.declared.family.Family.TheVariants.{V4, V6}
@@ -21,7 +21,7 @@ pub record Progress : Type 0 where
 abbrev pub start : Progress
 start = record { peers = None; events = []; records = 0; skipped = 0; treated = 0 }
 
--- a RIB record behind the latest peer table
+-- a RIB record after the latest peer table
 abbrev pub rib_behind : Option (List Peer) → Bool → Family → List ℕ → Result (List Event) Rule
 rib_behind (Some peers) ids family body = rib peers ids family body
 rib_behind None ids family body = Err NoPeerTable
@@ -47,7 +47,7 @@ abbrev pub said_behind : Option (List Peer) → Record → Option (Bool × Famil
 said_behind peers r (Some (ids, family)) = rib_behind peers ids family r.body >>= λ events. Ok (Some (said events))
 said_behind peers r None = if is_session r then bgp4mp r.subtype (r.kind == 17) r.body else Ok None
 
--- The peer table after a record, and what the record says, or none where it is skipped.
+-- The peer table after a record, and what the record says, or none if it is skipped.
 unfoldable pub record_in : Option (List Peer) → Record → Result (Option (List Peer) × Option Said) Rule
 record_in peers r =
     if is_dump 1 r then (peer_table r.body >>= λ table. Ok (Some table, Some (said [])))
@@ -57,7 +57,7 @@ abbrev pub counted : Progress → Option (List Peer) × Option Said → Progress
 counted p (peers, Some words) = record { peers = peers; events = p.events ++ words.events; records = p.records + 1; skipped = p.skipped; treated = p.treated + (if words.treated then 1 else 0) }
 counted p (peers, None) = record { peers = peers; events = p.events; records = p.records + 1; skipped = p.skipped + 1; treated = p.treated }
 
--- where reading stops: behind these records, since the next one breaks a rule
+-- where reading stops: after these records, since the next one breaks a rule
 pub record Stopped : Type 0 where
   pub read : Progress
   pub rule : Rule

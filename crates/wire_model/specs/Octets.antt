@@ -8,11 +8,11 @@ use Rattle.table_model.specs.Width.{width}
 use Rattle.wire_model.specs.Path.{Path}
 use Rattle.wire_model.specs.Wire.{octets_for}
 
--- a number in so many octets, the highest first (RFC 6396, 2; RFC 4271, 4)
+-- a number in n octets, the highest first (RFC 6396, 2; RFC 4271, 4)
 unfoldable pub number_octets : ℕ → ℕ → List ℕ
 number_octets k n = bytes_high_first k n
 
--- octets behind their number in two octets
+-- octets after their number in two octets
 abbrev pub behind_length : List ℕ → List ℕ
 behind_length octets = number_octets 2 (length octets) ++ octets
 
@@ -28,11 +28,11 @@ prefix_octets p = length p.bits ∷ take (octets_for (length p.bits)) (number_oc
 unfoldable pub attribute_octets : ℕ → List ℕ → List ℕ
 attribute_octets kind value = 64 ∷ kind ∷ length value ∷ value
 
--- AS_PATH of one AS_SEQUENCE that has one AS number so many times, in four octets (RFC 4271, 4.3; RFC 6793, 3)
+-- AS_PATH of one AS_SEQUENCE that has one AS number n times, in four octets (RFC 4271, 4.3; RFC 6793, 3)
 unfoldable pub as_path_octets : ℕ → ℕ → List ℕ
 as_path_octets asn n = 2 ∷ n ∷ flat_map (number_octets 4) (replicate n asn)
 
--- the path of one AS number so many times: that AS is its origin, unless the path is empty
+-- the path of one AS number n times: that AS is its origin, unless the path is empty
 abbrev pub repeated_path : ℕ → ℕ → Path
 repeated_path asn n = record { length = n; origin = if n == 0 then None else Some asn }
 

@@ -5,7 +5,7 @@ use Rattle.octet_fields.specs.Field.{◌>>=◌, refuse, octet_at, octets_at, unt
 use Rattle.wire_model.specs.declared.rule.Rule.{Rule}
 use Rattle.wire_model.specs.declared.rule.Rule.TheVariants.{AttributeValue}
 
--- what an AS_PATH says of a route: how long the path is, and the AS in which the route originates, or none where the path doesn't tell it
+-- what an AS_PATH says of a route: how long the path is, and the AS in which the route originates, or none if the path doesn't give it
 pub record Path : Type 0 where
   pub length : ℕ
   pub origin : Option ℕ
@@ -18,11 +18,11 @@ no_path = record { length = 0; origin = None }
 abbrev pub segment_length : ℕ → ℕ → ℕ
 segment_length kind count = if kind == 2 then count else (if kind == 1 then (if count == 0 then 0 else 1) else 0)
 
--- The origin where this segment is the path's last, its AS numbers of so many octets each (RFC 6811, 2): the last AS number of an AS_SEQUENCE (2) that isn't empty, none for any other.
+-- The origin if this segment is the path's last, its AS numbers of n octets each (RFC 6811, 2): the last AS number of an AS_SEQUENCE (2) that isn't empty, none for any other.
 abbrev pub segment_origin : ℕ → ℕ → List ℕ → Option ℕ
 segment_origin size kind numbers = if kind == 2 && not (length numbers == 0) then Some (number (drop (length numbers - size) numbers)) else None
 
--- type, count, AS numbers of so many octets each; the length so far grows by what the segment counts, and of the segments so far this one is the last
+-- type, count, AS numbers of n octets each; the length so far grows by what the segment counts, and of the segments so far this one is the last
 unfoldable pub segment_at : ℕ → Path → List ℕ → Result (Path × List ℕ) Rule
 segment_at size so_far octets = do
   kind ← octet_at AttributeValue octets

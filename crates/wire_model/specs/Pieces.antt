@@ -29,7 +29,7 @@ TakesOn = (fed left after : List ℕ) (taken : List Record) (r : Record) → Tak
 abbrev pub StaysTooLong : Type 0
 StaysTooLong = (fed left : List ℕ) (taken : List Record) → TakesRecords fed taken left → record_at left ≡ Err TooLong → Breaks fed (record { number = length taken; rule = TooLong })
 
--- what is refused stays so where more is fed
+-- what is refused stays so if more is fed
 abbrev pub StaysBroken : Type 0
 StaysBroken = (fed piece : List ℕ) (fault : Fault) → Breaks fed fault → Breaks (fed ++ piece) fault
 

@@ -36,7 +36,7 @@ ReadingBreaks = (fed left after : List ℕ) (read : Progress) (r : Record) (rule
 abbrev pub ReadingTooLong : Type 0
 ReadingTooLong = (fed left : List ℕ) (read : Progress) → ReadsEvents fed read left → record_at left ≡ Err TooLong → ReadsNo fed (record { read = read; rule = TooLong })
 
--- what is refused stays so where more is fed
+-- what is refused stays so if more is fed
 abbrev pub ReadingStays : Type 0
 ReadingStays = (fed piece : List ℕ) (stopped : Stopped) → ReadsNo fed stopped → ReadsNo (fed ++ piece) stopped
 

@@ -13,7 +13,7 @@ pub record Record : Type 0 where
 abbrev pub most_length : ℕ
 most_length = 16777216
 
--- Timestamp, Type, Subtype, Length, and so many octets.
+-- Timestamp, Type, Subtype, Length, and n octets.
 unfoldable pub record_at : List ℕ → Result (Record × List ℕ) Rule
 record_at octets = do
   whole ← refuse HeaderCut (nat_lt (length octets) 12)

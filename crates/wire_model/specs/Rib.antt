@@ -15,7 +15,7 @@ use Rattle.wire_model.specs.Attribute.{ReachAttr, Listed, attributes}
 
 -- ---- PEER_INDEX_TABLE (4.3.1)
 
--- Peer Type, BGP ID, address, AS. Where the type's lowest bit (I, value 1) is set the address is IPv6; where the one above it (A, value 2) is set the AS has four octets.
+-- Peer Type, BGP ID, address, AS. If the type's lowest bit (I, value 1) is set the address is IPv6; if the one above it (A, value 2) is set the AS has four octets.
 unfoldable pub peer_at : List ℕ → Result (Peer × List ℕ) Rule
 peer_at octets = do
   kind ← octet_at PeerTableForm octets

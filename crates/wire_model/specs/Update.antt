@@ -46,7 +46,7 @@ abbrev pub reach_events : Peer → Listed → Option ReachAttr → List Event
 reach_events peer list None = []
 reach_events peer list (Some reach) = routes peer list.path (if list.bad then None else Some reach.hop) reach.nlri
 
--- Withdrawn Routes Length, withdrawn IPv4 routes, Total Path Attribute Length, attributes, IPv4 NLRI to the end. Its events: the withdrawn routes, MP_UNREACH_NLRI's, the NLRI with NEXT_HOP, MP_REACH_NLRI's with its own. Where the list of attributes is bad the message is treated as a withdrawal: a bad list has no next hop.
+-- Withdrawn Routes Length, withdrawn IPv4 routes, Total Path Attribute Length, attributes, IPv4 NLRI to the end. Its events: the withdrawn routes, MP_UNREACH_NLRI's, the NLRI with NEXT_HOP, MP_REACH_NLRI's with its own. If the list of attributes is bad the message is treated as a withdrawal: a bad list has no next hop.
 unfoldable pub update : Bool → Bool → Peer → List ℕ → Result Said Rule
 update wide ids peer octets = do
   gone_len ← number_at UpdateLengths 2 octets
@@ -122,6 +122,6 @@ session_in (Some session) micro body = do
   afi ← number_at SessionForm 2 interface.1
   session_behind session asn.0 (family_of afi.0) afi.1
 
--- what a record of this subtype says, with microseconds or without; none where it is skipped
+-- what a record of this subtype says, with microseconds or without; none if it is skipped
 unfoldable pub bgp4mp : ℕ → Bool → List ℕ → Result (Option Said) Rule
 bgp4mp sub micro body = session_in (session_of sub) micro body

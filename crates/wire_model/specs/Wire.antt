@@ -9,7 +9,7 @@ use Rattle.octet_fields.specs.Field.{refuse, octet_at, octets_at, number_at, one
 use Rattle.wire_model.specs.declared.rule.Rule.{Rule}
 use Rattle.wire_model.specs.declared.rule.Rule.TheVariants.{PrefixLength, AttributeValue}
 
--- the octets that hold so many bits
+-- the octets that hold n bits
 abbrev pub octets_for : ℕ → ℕ
 octets_for bits = (bits + 7) / 8
 
@@ -32,7 +32,7 @@ pub record Nlri : Type 0 where
   pub prefix : Prefix
   pub id : ℕ
 
--- the octets of a path identifier: four where prefixes have one, and else none, which is identifier 0
+-- the octets of a path identifier: four if prefixes have one, and else none, which is identifier 0
 abbrev pub id_size : Bool → ℕ
 id_size ids = if ids then 4 else 0
 
@@ -51,7 +51,7 @@ nlris cut ids family octets = until_end (one_more (nlri_at cut ids family)) [] o
 abbrev pub family_of : ℕ → Option Family
 family_of afi = if afi == 1 then Some V4 else (if afi == 2 then Some V6 else None)
 
--- AFI, SAFI (RFC 4760, 3): the family, where it is unicast (SAFI 1) of a known one
+-- AFI, SAFI (RFC 4760, 3): the family, if it is unicast (SAFI 1) of a known one
 unfoldable pub family_at : List ℕ → Result (Option Family × List ℕ) Rule
 family_at octets = do
   afi ← number_at AttributeValue 2 octets

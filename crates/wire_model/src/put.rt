@@ -1,4 +1,4 @@
-//! Fields, each put behind what was written before it. The few octets of a number are pushed one by one, which costs a third of
+//! Fields, each put after what was written before it. The few octets of a number are pushed one by one, which costs a third of
 //! what a copy of so few does.
 
 ghost use Rattle.std.specs.Prelude.{◌≡◌, ◌<◌, ◌≤◌, ◌++◌, ◌∷◌, ◌^◌, length, take, OnOk};
@@ -32,7 +32,7 @@ pub fn put_u32(number: u32, out: &mut Vec<u8>) -> Result<(), AllocError>
     Ok(())
 }
 
-/// Puts octets behind their number in two octets.
+/// Puts octets after their number in two octets.
 pub fn put_behind_length(part: &[u8], out: &mut Vec<u8>) -> Result<(), AllocError>
     requires { length part.now < 2 ^ 16 }
     ensures { OnOk result (out.new.items ≡ out.old.items ++ behind_length part.now) }
@@ -41,7 +41,7 @@ pub fn put_behind_length(part: &[u8], out: &mut Vec<u8>) -> Result<(), AllocErro
     out.extend_from_slice(part)
 }
 
-/// Puts a prefix of so many bits: the length, then the octets of its address that hold them (RFC 4271, section 4.3).
+/// Puts a prefix of `len` bits: the length, then the octets of its address that hold them (RFC 4271, section 4.3).
 pub fn put_bits(len: u8, address: &[u8], out: &mut Vec<u8>) -> Result<(), AllocError>
     requires { octets_for len ≤ length address.now }
     ensures { OnOk result (out.new.items
@@ -51,7 +51,7 @@ pub fn put_bits(len: u8, address: &[u8], out: &mut Vec<u8>) -> Result<(), AllocE
     out.extend_from_slice(&address[..usize::from(len.div_ceil(8))])
 }
 
-/// Puts an AS_SEQUENCE that has one AS so many times, each in four octets (RFC 4271, section 4.3).
+/// Puts an AS_SEQUENCE that has one AS `count` times, each in four octets (RFC 4271, section 4.3).
 pub fn put_sequence(asn: u32, count: u8, out: &mut Vec<u8>) -> Result<(), AllocError>
     ensures { OnOk result (out.new.items ≡ out.old.items ++ as_path_octets asn count) }
 {

@@ -30,7 +30,7 @@ pub fn reading_in_pieces()
     ensures ends { ReadingEnds }
 {}
 
-/// Where a definition reads to the end, nothing is left over: NLRI, the segments of a path, attributes, records, and a
+/// If a definition reads to the end, nothing is left over: NLRI, the segments of a path, attributes, records, and a
 /// whole input with all that it says.
 pub fn end_law()
     ensures nlri { (cut : Rule) (ids : Bool) (family : Family) → ReadsToEnd (one_more (nlri_at cut ids family)) }
@@ -40,7 +40,7 @@ pub fn end_law()
     ensures input { ReadsToEnd read_record }
 {}
 
-/// What is read is well formed, also where reading stops or goes on: each address has as many bits as its family, each
+/// What is read is well formed, also if reading stops or goes on: each address has as many bits as its family, each
 /// prefix at most as many.
 pub fn events_law()
     ensures read { (octets : List ℕ) (read : Progress) → input octets ≡ Ok read

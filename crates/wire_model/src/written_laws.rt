@@ -12,7 +12,7 @@ ghost use Rattle.wire_model.specs.Wire.{address_at, prefix_at};
 ghost use Rattle.wire_model.specs.Octets.{number_octets, address_octets, prefix_octets, as_path_octets, repeated_path, record_octets};
 
 /// What is written is read as it, whatever follows: a number that fits, an address, a prefix, a path, of which the AS number fits if
-/// its origin is to be told, and a record.
+/// its origin is to be read, and a record.
 pub fn written_law()
     ensures number { (fault : Rule) (k n : ℕ) (rest : List ℕ) → n < 256 ^ k
         → number_at fault k (number_octets k n ++ rest) ≡ Ok (n, rest) }

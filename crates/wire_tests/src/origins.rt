@@ -1,5 +1,5 @@
-//! Values of AS_PATH, with AS numbers of two octets and of four: the origin that each tells (RFC 6811, section 2), or the rule of its
-//! first wrong field.
+//! Values of AS_PATH, with AS numbers of two octets and of four: the origin that each gives (RFC 6811, section 2), or the rule of
+//! its first wrong field.
 
 use bgp_attrs::path_origin;
 use std::test::Fail;
