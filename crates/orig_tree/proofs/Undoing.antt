@@ -127,14 +127,14 @@ put_in f q len set free free' old new S few g a w k assigned stay =
 
 -- what was kept is there again, and the route
 pub taken_back : (f : Family) (R : Table) (u : Undo) (n free free1 free' : ℕ) (old mid new : List Node) (S S2 S3 : ℕ → Best) → UndoesChange f R old S u → mid ≡ old → free1 ≡ free → free' ≡ free1 → S3 ≡ S2 → IsArena f old free → length old ≤ n + 1 →
-    ((j : ℕ) → j ≤ n → S2 j ≡ back u.changes.items S j) → Assigns u.hop u.len u.q mid new → HalvesStay mid new →
-    IsArena f new free' × KeepsBest f new S3 × (whole f new ≡ edited Route (bits_of u.len u.q) u.hop (whole f old))
+    ((j : ℕ) → j ≤ n → S2 j ≡ back u.changes.items S j) → Assigns u.hop u.path.left u.path.bits mid new → HalvesStay mid new →
+    IsArena f new free' × KeepsBest f new S3 × (whole f new ≡ edited Route (bits_of u.path.left u.path.bits) u.hop (whole f old))
 taken_back f R u n free free1 free' old mid new S S2 S3 t stays frees g kept a l made assigned stay =
     let F = λ (x : List Bool). lpm R x 0 in
     let k = best_carry (suc (width f)) old old (back u.changes.items S) S2 a.name F 0 [] a.tree (λ j r e b. (refl, made j (omega (arith, l, within_it old free a.spares j a.name r a.held e)))) t.best in
-    let y = put_in f u.q u.len u.hop free free' old new S2 t.few (g ∙ frees) a t.allowed
+    let y = put_in f u.path.bits u.path.left u.hop free free' old new S2 t.few (g ∙ frees) a t.allowed
     (best_alike (suc (width f)) old S2 F (λ x. lpm (undone u (whole f old).routes) x 0) 0 (λ x z. ap (λ K. lpm K x 0) (sym t.routes)) k)
-    (subst (λ (cs : List Node). Assigns u.hop u.len u.q cs new) stays assigned) (subst (λ (cs : List Node). HalvesStay cs new) stays stay) in
+    (subst (λ (cs : List Node). Assigns u.hop u.path.left u.path.bits cs new) stays assigned) (subst (λ (cs : List Node). HalvesStay cs new) stays stay) in
     (y.0, subst (λ (K : ℕ → Best). KeepsBest f new K) (sym kept) y.1, y.2)
 
 pub if_allowed : (p : List Bool) (o : Option ℕ) (nodes : List (List Bool)) → has_node p nodes ≡ true → CanEdit p o nodes
@@ -142,15 +142,15 @@ if_allowed p None nodes h = tt
 if_allowed p (Some g) nodes h = h
 
 -- the change that was made can be taken back
-pub takes_back : (f : Family) (u : Undo) (set : Option ℕ) (n free : ℕ) (old new : List Node) (S S2 : ℕ → Best) → u.len ≤ width f → u.hop ≡ entry_at (bits_of u.len u.q) (whole f old).routes → IsArena f old free → KeepsBest f old S → length old ≤ n + 1 →
-    ((j : ℕ) → j ≤ n → back u.changes.items S2 j ≡ S j) → HalvesStay old new → whole f new ≡ edited Route (bits_of u.len u.q) set (whole f old) → has_node (bits_of u.len u.q) (whole f old).nodes ≡ true → UndoesChange f (whole f old).routes new S2 u
+pub takes_back : (f : Family) (u : Undo) (set : Option ℕ) (n free : ℕ) (old new : List Node) (S S2 : ℕ → Best) → u.path.left ≤ width f → u.hop ≡ entry_at (bits_of u.path.left u.path.bits) (whole f old).routes → IsArena f old free → KeepsBest f old S → length old ≤ n + 1 →
+    ((j : ℕ) → j ≤ n → back u.changes.items S2 j ≡ S j) → HalvesStay old new → whole f new ≡ edited Route (bits_of u.path.left u.path.bits) set (whole f old) → has_node (bits_of u.path.left u.path.bits) (whole f old).nodes ≡ true → UndoesChange f (whole f old).routes new S2 u
 takes_back f u set n free old new S S2 few own a k l made stay w there =
-    let p = bits_of u.len u.q in
+    let p = bits_of u.path.left u.path.bits in
     let F = λ (x : List Bool). lpm (whole f old).routes x 0 in
     record {
       routes =
           ap (edit p u.hop) (ap (λ (y : Walks). y.routes) w)
-          ∙ (ap (λ o. edit p o (edit p set (whole f old).routes)) own ∙ edit_back (suc (width f)) old 0 p set (omega (arith, few, length-bits_of u.len u.q)));
+          ∙ (ap (λ o. edit p o (edit p set (whole f old).routes)) own ∙ edit_back (suc (width f)) old 0 p set (omega (arith, few, length-bits_of u.path.left u.path.bits)));
       best = best_stay (suc (width f)) old new (back u.changes.items S2) F 0 stay
           (best_carry (suc (width f)) old old S (back u.changes.items S2) a.name F 0 [] a.tree (λ j r e b. (refl, made j (omega (arith, l, within_it old free a.spares j a.name r a.held e)))) k);
       few = few;
@@ -178,7 +178,7 @@ can_stay f old new S (Some u) h r m c =
       routes = same;
       best = best_stay (suc (width f)) old new (back u.changes.items S) (λ a. lpm R a 0) 0 h c.0.best;
       few = c.0.few;
-      allowed = subst (λ (x : List (List Bool)). CanEdit (bits_of u.len u.q) u.hop x) (sym m) c.0.allowed;
+      allowed = subst (λ (x : List (List Bool)). CanEdit (bits_of u.path.left u.path.bits) u.hop x) (sym m) c.0.allowed;
     }) c.1
 
 back_same : (cs : List Change) (S T : ℕ → Best) → ((j : ℕ) → T j ≡ S j) → (j : ℕ) → back cs T j ≡ back cs S j

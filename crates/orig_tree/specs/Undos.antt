@@ -1,12 +1,11 @@
 -- The last change of a route, and how it is taken back.
 use Rattle.std.specs.Prelude.{◌≡◌, ◌≤◌, ℕ, suc, List, Option, Some, None}
-use Rattle.table_model.specs.Bits.{bits_of}
 use Rattle.table_model.specs.Width.{width}
 use Rattle.table_model.specs.declared.family.Family.{Family}
 use Rattle.table_model.specs.Table.{Table, lpm}
 use Rattle.table_model.specs.Entries.{of_table}
 use Rattle.orig_tree.specs.Edits.{edit}
-use Rattle.orig_tree.specs.Views.{InPlace}
+use Rattle.orig_tree.specs.Views.{path_of, InPlace}
 use Rattle.orig_tree.specs.Walk.{CanEdit}
 use Rattle.orig_tree.specs.Arena.{whole}
 use Rattle.orig_tree.specs.Bests.{AreBest, back}
@@ -16,7 +15,7 @@ use Rattle.orig_tree.specs.declared.undo.Undo.{Undo}
 
 -- the routes with what the path had before
 abbrev pub undone : Undo → Table → Table
-undone u R = edit (bits_of u.len u.q) u.hop R
+undone u R = edit (path_of u.path) u.hop R
 
 -- the routes before the last change, if it can be taken back
 abbrev pub routes_before : Option Undo → Table → Table
@@ -27,8 +26,8 @@ routes_before (Some u) R = undone u R
 pub record UndoesChange (f : Family) (R : Table) (cells : List Node) (kept : ℕ → Best) (u : Undo) : Type 0 where
   pub routes : undone u (whole f cells).routes ≡ R
   pub best : AreBest (suc (width f)) cells (back u.changes.items kept) (λ a. lpm R a 0) 0
-  pub few : u.len ≤ width f
-  pub allowed : CanEdit (bits_of u.len u.q) u.hop (whole f cells).nodes
+  pub few : u.path.left ≤ width f
+  pub allowed : CanEdit (path_of u.path) u.hop (whole f cells).nodes
 
 -- the last change, if it can be taken back
 abbrev pub CanUndo : Family → List Node → (ℕ → Best) → Option Undo → Type 0

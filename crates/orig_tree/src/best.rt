@@ -29,6 +29,13 @@ pub(crate) struct Change {
     pub(crate) best: Best,
 }
 
+/// What places are to keep, each change after those before it, and where the memory for more is from.
+#[derive(Drop)]
+pub(crate) struct Plan {
+    pub(crate) alloc: Global,
+    pub(crate) changes: Vec<Change>,
+}
+
 /// The sum, or out of memory if it passes 64 bits. No cost does: it is below the number of the region's addresses.
 fn sum(a: u64, b: u64) -> Result<u64, AllocError>
     ensures { IfOk result (λ n. n ≡ a + b) }
@@ -153,12 +160,19 @@ pub(crate) fn join_kept(
 }
 
 /// No changes yet, with room for those on a way of `depth` bits. The list's own room is used again.
-pub(crate) fn no_changes(mut spare: Vec<Change>, depth: u8) -> Result<Vec<Change>, AllocError>
-    ensures { IfOk result (λ v. v.items ≡ []) }
+pub(crate) fn no_changes(
+    alloc: Global,
+    mut spare: Vec<Change>,
+    depth: u8,
+) -> Result<Plan, AllocError>
+    ensures { IfOk result (λ x. x.changes.items ≡ []) }
 {
     spare.clear();
     spare.reserve(depth as usize + 1)?;
-    Ok(spare)
+    Ok(Plan {
+        alloc,
+        changes: spare,
+    })
 }
 
 /// Makes the changes, each in its turn. What the places kept is left in their stead.

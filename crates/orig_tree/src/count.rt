@@ -1,11 +1,12 @@
 //! How many nodes there are within a prefix.
 
 ghost use Rattle.std.specs.Prelude.{◌≡◌, ◌≤◌, ◌^◌, ◌-◌, ℕ, suc, List, Bool, length, min};
-ghost use Rattle.table_model.specs.Bits.{bits_of};
+ghost use Rattle.orig_tree.specs.Views.{path_of};
 ghost use Rattle.orig_tree.specs.Arena.{cells_of, walks_at, from_half};
 ghost use Rattle.orig_tree.specs.Within.{nodes_in, told};
 
 use crate::node::{Nodes, read};
+use crate::path::Path;
 use fib_addr::bit_at;
 
 /// The nodes from a node on, over `depth` levels below it.
@@ -35,18 +36,19 @@ fn count_half(nodes: &Nodes, half: Option<usize>, depth: u8) -> u64
 }
 
 /// The nodes within a path of `left` bits from a node on.
-pub(crate) fn count_within(nodes: &Nodes, i: usize, q: u128, left: u8, depth: u8) -> u64
-    requires few { left ≤ depth }
+pub(crate) fn count_within(nodes: &Nodes, i: usize, path: Path, depth: u8) -> u64
+    requires few { path.left ≤ depth }
     requires most { depth ≤ 128 }
-    ensures { result ≡ told (nodes_in (bits_of left q) (walks_at (suc depth) (cells_of nodes.now)
+    ensures { result ≡ told (nodes_in (path_of path) (walks_at (suc depth) (cells_of nodes.now)
         i).nodes) }
 {
-    if left == 0 {
+    if path.left == 0 {
         return count(nodes, i, depth);
     }
-    let at = left - 1;
-    match read(nodes, i).half(bit_at(q, at)) {
+    let at = path.left - 1;
+    let rest = Path { left: at, ..path };
+    match read(nodes, i).half(bit_at(path.bits, at)) {
         None => 0,
-        Some(j) => count_within(nodes, j, q, at, depth - 1),
+        Some(j) => count_within(nodes, j, rest, depth - 1),
     }
 }

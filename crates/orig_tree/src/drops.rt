@@ -2,12 +2,13 @@
 
 ghost use Rattle.std.specs.Prelude.{◌≡◌, ◌≤◌, ◌+◌, ◌||◌, ℕ, List, Bool, [], vec_len, slice_set, cond};
 ghost use Rattle.std.specs.Option.{is_some};
-ghost use Rattle.table_model.specs.Bits.{bits_of};
+ghost use Rattle.orig_tree.specs.Views.{path_of};
 ghost use Rattle.orig_tree.specs.Arena.{cells_of, Owner, link, IsTree, HasSpares, IfHalf};
 ghost use Rattle.orig_tree.specs.Bests.{bests_of};
 ghost use Rattle.orig_tree.specs.Drops.{with_halves, spare_node, NodeTrimmed, HalfTrimmed};
 
 use crate::node::{Node, Nodes, leaf, put, read};
+use crate::path::Path;
 use fib_addr::bit_at;
 
 /// Whether a node has a label of its own.
@@ -121,38 +122,39 @@ fn prune_half(nodes: &mut Nodes, half: u32, depth: u8) -> bool
 /// Drops the nodes of a path and below it that have no label at or below them, and those on the way to it that then have
 /// none and nothing below them, but not the node itself; and returns whether the node has something left. It changes no table.
 #[cycle(trim)]
-pub(crate) fn trim(nodes: &mut Nodes, i: usize, q: u128, left: u8, depth: u8) -> bool
-    requires { left ≤ 128 }
+pub(crate) fn trim(nodes: &mut Nodes, i: usize, path: Path, depth: u8) -> bool
+    requires { path.left ≤ 128 }
     ensures trimmed { (d : ℕ) (name : ℕ → Owner) (spares : ℕ) (p : List Bool) → d ≤ depth + 1
         → IsTree d (cells_of nodes.old) name i p → HasSpares (cells_of nodes.old) nodes.old.free name
-        spares → NodeTrimmed d (bits_of left q) (cells_of nodes.old) (cells_of nodes.new)
+        spares → NodeTrimmed d (path_of path) (cells_of nodes.old) (cells_of nodes.new)
         nodes.new.free name i p result }
     ensures kept { bests_of nodes.new ≡ bests_of nodes.old }
     ensures len { vec_len nodes.new.halves ≡ vec_len nodes.old.halves }
 {
-    if left == 0 {
+    if path.left == 0 {
         return prune(nodes, i, depth);
     }
-    let at = left - 1;
+    let at = path.left - 1;
+    let rest = Path { left: at, ..path };
     let node = read(nodes, i);
-    if bit_at(q, at) {
-        let high = trim_half(nodes, node.high, q, at, depth);
+    if bit_at(path.bits, at) {
+        let high = trim_half(nodes, node.high, rest, depth);
         settle(nodes, i, node, true, high);
         return any(node.half(false).is_some(), high, has_label(node));
     }
-    let low = trim_half(nodes, node.low, q, at, depth);
+    let low = trim_half(nodes, node.low, rest, depth);
     settle(nodes, i, node, low, true);
     any(low, node.half(true).is_some(), has_label(node))
 }
 
 /// The same of a half, if it is a node; its own is given back if it has nothing left.
 #[cycle(trim)]
-fn trim_half(nodes: &mut Nodes, half: u32, q: u128, left: u8, depth: u8) -> bool
-    requires { left ≤ 128 }
+fn trim_half(nodes: &mut Nodes, half: u32, path: Path, depth: u8) -> bool
+    requires { path.left ≤ 128 }
     ensures trimmed { (d : ℕ) (name : ℕ → Owner) (spares : ℕ) (p : List Bool) → d ≤ depth
         → IfHalf (λ j. IsTree d (cells_of nodes.old) name j p) (link half)
         → HasSpares (cells_of nodes.old) nodes.old.free name spares
-        → HalfTrimmed d (bits_of left q) (cells_of nodes.old) (cells_of nodes.new) nodes.new.free
+        → HalfTrimmed d (path_of path) (cells_of nodes.old) (cells_of nodes.new) nodes.new.free
         name (link half) p result }
     ensures kept { bests_of nodes.new ≡ bests_of nodes.old }
     ensures len { vec_len nodes.new.halves ≡ vec_len nodes.old.halves }
@@ -163,7 +165,7 @@ fn trim_half(nodes: &mut Nodes, half: u32, q: u128, left: u8, depth: u8) -> bool
     if depth == 0 {
         return true;
     }
-    if trim(nodes, half as usize, q, left, depth - 1) {
+    if trim(nodes, half as usize, path, depth - 1) {
         return true;
     }
     give(nodes, half);

@@ -21,7 +21,7 @@ use crate::best::{Best, join_kept};
 use crate::build::build_all;
 use crate::merge::merge;
 use crate::node::{Label, Nodes, exchange, read, set_label};
-use crate::path::path_bits;
+use crate::path::{Path, path_bits};
 use crate::source::EntrySource;
 use fib_addr::{Entry, Family, Prefix};
 use std::alloc::{AllocError, Global};
@@ -67,8 +67,11 @@ fn insert_one(
         return Ok(());
     }
     let prefix = &entry.prefix;
-    let q = path_bits(prefix);
-    set_label(nodes, 0, q, prefix.len, 0, label, entry.hop.0)?;
+    let path = Path {
+        bits: path_bits(prefix),
+        left: prefix.len,
+    };
+    set_label(nodes, 0, path, 0, label, entry.hop.0)?;
     Ok(())
 }
 

@@ -3,7 +3,6 @@
 
 ghost use Rattle.std.specs.Prelude.{◌≡◌, ◌≤◌, ◌<◌, ◌-◌, ℕ, OnOk, OnErr, IsOk, IfOk, ◌∷◌, List, Bool, true, false, [], map, ◌++◌, slice_set, vec_len, vec_capacity, ◌+◌, ◌^◌, length, suc, Some, None};
 ghost use Rattle.std.specs.Option.{is_some};
-ghost use Rattle.table_model.specs.Bits.{bits_of};
 ghost use Rattle.table_model.specs.Halves.{half_at};
 ghost use Rattle.table_model.specs.Width.{width};
 ghost use Rattle.table_model.specs.Table.{lpm, root, half, here};
@@ -11,7 +10,7 @@ ghost use Rattle.table_model.specs.Regions.{above, lift};
 ghost use Rattle.fib_addr.specs.Views.{prefix_as};
 ghost use Rattle.orig_tree.specs.Walk.{rows_of, edited, CanEdit, labelled, has_node};
 ghost use Rattle.table_model.specs.Entries.{of_table};
-ghost use Rattle.orig_tree.specs.Views.{FitsWidth};
+ghost use Rattle.orig_tree.specs.Views.{path_of, FitsWidth};
 ghost use Rattle.orig_tree.specs.Uniform.{IsUniform};
 ghost use Rattle.orig_tree.specs.Arena.{cells_of, Owner, blank_cell, cell_at, half_place, walks_at, IsTree, IsSet, retold, cover_at, cover_of, from_half, HasSpares, link, GivesPlace, IsSplit, MakesRoom, HalvesStay, with_half};
 ghost use Rattle.orig_tree.specs.Bests.{best_in, bests_of, best_one, blank_place, put_at, AreBest, IsGrown, laid};
@@ -21,6 +20,7 @@ ghost use Rattle.orig_tree.specs.Placed.{Climbs, IsPlaced, route_set};
 use crate::best::{Best, fresh};
 use crate::counter::{Counter, Uncounted};
 use crate::cover::{Cover, Slot};
+use crate::path::Path;
 use fib_addr::{EntrySink, Prefix, bit_at, emit_entry};
 use std::alloc::{AllocError, Global};
 use std::mem;
@@ -209,45 +209,40 @@ pub(crate) fn best_at<'a>(nodes: &'a Nodes, i: usize, none: &'a Best) -> &'a Bes
 }
 
 /// Longest match below a node, for an address of which `left` bits are left.
-pub(crate) fn answer(
-    nodes: &Nodes,
-    i: usize,
-    label: Label,
-    q: u128,
-    left: u8,
-    inherited: u16,
-) -> u16
-    requires { left ≤ 128 }
-    ensures { (d : ℕ) → left < d → result ≡ lpm (rows_of label (walks_at d (cells_of nodes.now) i))
-        (bits_of left q) inherited }
+pub(crate) fn answer(nodes: &Nodes, i: usize, label: Label, path: Path, inherited: u16) -> u16
+    requires { path.left ≤ 128 }
+    ensures { (d : ℕ) → path.left < d → result ≡ lpm (rows_of label (walks_at d (cells_of nodes.now) i))
+        (path_of path) inherited }
 {
     let node = read(nodes, i);
     let hop = node.hop(label).unwrap_or(inherited);
-    if left == 0 {
+    if path.left == 0 {
         return hop;
     }
-    let at = left - 1;
-    match node.half(bit_at(q, at)) {
+    let at = path.left - 1;
+    let rest = Path { left: at, ..path };
+    match node.half(bit_at(path.bits, at)) {
         None => hop,
-        Some(j) => answer(nodes, j, label, q, at, hop),
+        Some(j) => answer(nodes, j, label, rest, hop),
     }
 }
 
 /// What a path inherits from the entries: the hop of the longest one that it is strictly within.
-pub(crate) fn inherited(nodes: &Nodes, i: usize, q: u128, left: u8, hop: u16) -> u16
-    requires { left ≤ 128 }
-    ensures { (d : ℕ) → left < d → result ≡ above (bits_of left q) (walks_at d (cells_of nodes.now)
+pub(crate) fn inherited(nodes: &Nodes, i: usize, path: Path, hop: u16) -> u16
+    requires { path.left ≤ 128 }
+    ensures { (d : ℕ) → path.left < d → result ≡ above (path_of path) (walks_at d (cells_of nodes.now)
         i).entries hop }
 {
-    if left == 0 {
+    if path.left == 0 {
         return hop;
     }
     let node = read(nodes, i);
     let hop = node.entry.hop.unwrap_or(hop);
-    let at = left - 1;
-    match node.half(bit_at(q, at)) {
+    let at = path.left - 1;
+    let rest = Path { left: at, ..path };
+    match node.half(bit_at(path.bits, at)) {
         None => hop,
-        Some(j) => inherited(nodes, j, q, at, hop),
+        Some(j) => inherited(nodes, j, rest, hop),
     }
 }
 
@@ -321,34 +316,34 @@ pub(crate) fn assign(
     nodes: &mut Nodes,
     i: usize,
     label: Label,
-    q: u128,
-    left: u8,
+    path: Path,
     hop: Option<u16>,
 ) -> bool
-    requires few { left ≤ 128 }
+    requires few { path.left ≤ 128 }
     ensures len { vec_len nodes.new.halves ≡ vec_len nodes.old.halves }
     ensures kept { bests_of nodes.new ≡ bests_of nodes.old }
     ensures halves { HalvesStay (cells_of nodes.old) (cells_of nodes.new) }
     ensures free { nodes.new.free ≡ nodes.old.free }
-    ensures set { (d : ℕ) (name : ℕ → Owner) (p : List Bool) → left < d
-        → IsTree d (cells_of nodes.old) name i p → CanEdit (bits_of left q) hop (walks_at d
-        (cells_of nodes.old) i).nodes → IsSet d label (bits_of left q) hop (cells_of nodes.old)
+    ensures set { (d : ℕ) (name : ℕ → Owner) (p : List Bool) → path.left < d
+        → IsTree d (cells_of nodes.old) name i p → CanEdit (path_of path) hop (walks_at d
+        (cells_of nodes.old) i).nodes → IsSet d label (path_of path) hop (cells_of nodes.old)
         (cells_of nodes.new) name i p }
-    ensures same { (d : ℕ) (name : ℕ → Owner) (p : List Bool) → left < d
-        → IsTree d (cells_of nodes.old) name i p → CanEdit (bits_of left q) hop (walks_at d
+    ensures same { (d : ℕ) (name : ℕ → Owner) (p : List Bool) → path.left < d
+        → IsTree d (cells_of nodes.old) name i p → CanEdit (path_of path) hop (walks_at d
         (cells_of nodes.old) i).nodes → result ≡ false → cover_of label (cell_at (cells_of nodes.new)
         i) ≡ cover_of label (cell_at (cells_of nodes.old) i) }
 {
     let node = read(nodes, i);
-    if left == 0 {
+    if path.left == 0 {
         return update_node(nodes, i, node, label, hop);
     }
-    let at = left - 1;
+    let at = path.left - 1;
+    let rest = Path { left: at, ..path };
     let own = node.hop(label);
-    match node.half(bit_at(q, at)) {
+    match node.half(bit_at(path.bits, at)) {
         None => false,
         Some(j) => {
-            let changed = assign(nodes, j, label, q, at, hop);
+            let changed = assign(nodes, j, label, rest, hop);
             if changed {
                 return update_node(nodes, i, node, label, own);
             }
@@ -362,25 +357,25 @@ pub(crate) fn uniform(
     nodes: &Nodes,
     i: usize,
     label: Label,
-    q: u128,
-    left: u8,
+    path: Path,
     inherited: u16,
 ) -> Option<u16>
-    requires { left ≤ 128 }
-    ensures { (d : ℕ) (name : ℕ → Owner) (p : List Bool) (n : ℕ) → left < d
-        → IsTree d (cells_of nodes.now) name i p → left ≤ n → FitsWidth n (rows_of label (walks_at d
+    requires { path.left ≤ 128 }
+    ensures { (d : ℕ) (name : ℕ → Owner) (p : List Bool) (n : ℕ) → path.left < d
+        → IsTree d (cells_of nodes.now) name i p → path.left ≤ n → FitsWidth n (rows_of label (walks_at d
         (cells_of nodes.now) i)) → IsUniform n (rows_of label (walks_at d (cells_of nodes.now) i))
-        inherited (bits_of left q) result }
+        inherited (path_of path) result }
 {
     let node = read(nodes, i);
-    if left == 0 {
+    if path.left == 0 {
         return cover(node, label).only(inherited);
     }
     let hop = node.hop(label).unwrap_or(inherited);
-    let at = left - 1;
-    match node.half(bit_at(q, at)) {
+    let at = path.left - 1;
+    let rest = Path { left: at, ..path };
+    match node.half(bit_at(path.bits, at)) {
         None => Some(hop),
-        Some(j) => uniform(nodes, j, label, q, at, hop),
+        Some(j) => uniform(nodes, j, label, rest, hop),
     }
 }
 
@@ -436,18 +431,19 @@ fn tell_half<S: EntrySink>(
 }
 
 /// Whether a path has a node.
-pub(crate) fn is_node(nodes: &Nodes, i: usize, q: u128, left: u8) -> bool
-    requires { left ≤ 128 }
-    ensures { (d : ℕ) → left < d → result ≡ has_node (bits_of left q) (walks_at d (cells_of
+pub(crate) fn is_node(nodes: &Nodes, i: usize, path: Path) -> bool
+    requires { path.left ≤ 128 }
+    ensures { (d : ℕ) → path.left < d → result ≡ has_node (path_of path) (walks_at d (cells_of
         nodes.now) i).nodes }
 {
-    if left == 0 {
+    if path.left == 0 {
         return true;
     }
-    let at = left - 1;
-    match read(nodes, i).half(bit_at(q, at)) {
+    let at = path.left - 1;
+    let rest = Path { left: at, ..path };
+    match read(nodes, i).half(bit_at(path.bits, at)) {
         None => false,
-        Some(j) => is_node(nodes, j, q, at),
+        Some(j) => is_node(nodes, j, rest),
     }
 }
 
@@ -506,32 +502,33 @@ fn join_half(node: Node, half: u32, bit: bool) -> Node
 
 /// Makes nodes down to a path, below a node that inherits the hop. It changes no table. The new ones keep what stands for
 /// their regions.
-pub(crate) fn grow(nodes: &mut Nodes, i: usize, q: u128, left: u8, inherited: u16)
-    requires bits { left ≤ 128 }
-    requires room { vec_len nodes.old.halves + left ≤ vec_capacity nodes.old.halves }
-    requires few { vec_len nodes.old.halves + left < 2 ^ 32 }
-    ensures nodes { (d : ℕ) (name : ℕ → Owner) (n : ℕ) (p : List Bool) → left < d
+pub(crate) fn grow(nodes: &mut Nodes, i: usize, path: Path, inherited: u16)
+    requires bits { path.left ≤ 128 }
+    requires room { vec_len nodes.old.halves + path.left ≤ vec_capacity nodes.old.halves }
+    requires few { vec_len nodes.old.halves + path.left < 2 ^ 32 }
+    ensures nodes { (d : ℕ) (name : ℕ → Owner) (n : ℕ) (p : List Bool) → path.left < d
         → IsTree d (cells_of nodes.old) name i p → HasSpares (cells_of nodes.old) nodes.old.free name n
-        → MakesRoom d (bits_of left q) (cells_of nodes.old) (cells_of nodes.new) nodes.new.free name i
+        → MakesRoom d (path_of path) (cells_of nodes.old) (cells_of nodes.new) nodes.new.free name i
         p }
-    ensures best { (d : ℕ) (name : ℕ → Owner) (n : ℕ) (p : List Bool) → left < d
+    ensures best { (d : ℕ) (name : ℕ → Owner) (n : ℕ) (p : List Bool) → path.left < d
         → IsTree d (cells_of nodes.old) name i p → HasSpares (cells_of nodes.old) nodes.old.free name n
         → AreBest d (cells_of nodes.old) (best_in nodes.old) (λ a. lpm (walks_at d (cells_of nodes.old)
         i).routes a inherited) i → IsGrown d (cells_of nodes.new) name i p (λ a. lpm (walks_at d
         (cells_of nodes.old) i).routes a inherited) (best_in nodes.old) (best_in nodes.new) }
 {
-    if left == 0 {
+    if path.left == 0 {
         return;
     }
-    let at = left - 1;
-    let bit = bit_at(q, at);
+    let at = path.left - 1;
+    let rest = Path { left: at, ..path };
+    let bit = bit_at(path.bits, at);
     let node = read(nodes, i);
     let hop = node.route.hop.unwrap_or(inherited);
     match node.half(bit) {
-        Some(j) => grow(nodes, j, q, at, hop),
+        Some(j) => grow(nodes, j, rest, hop),
         None => {
             let j = split(nodes, i, node, bit, Best::one(hop));
-            grow(nodes, j, q, at, hop);
+            grow(nodes, j, rest, hop);
         }
     }
 }
@@ -556,41 +553,41 @@ pub(crate) fn climb(nodes: &mut Nodes, i: usize, label: Label, changed: bool) ->
 pub(crate) fn grow_label<C: Counter>(
     nodes: &mut Nodes,
     i: usize,
-    q: u128,
-    left: u8,
+    path: Path,
     inherited: u16,
     label: Label,
     hop: u16,
     steps: &mut C,
 ) -> bool
-    requires bits { left ≤ 128 }
-    requires room { vec_len nodes.old.halves + left ≤ vec_capacity nodes.old.halves }
-    requires few { vec_len nodes.old.halves + left < 2 ^ 32 }
-    ensures made { (d : ℕ) (name : ℕ → Owner) (n : ℕ) (p : List Bool) → left < d
+    requires bits { path.left ≤ 128 }
+    requires room { vec_len nodes.old.halves + path.left ≤ vec_capacity nodes.old.halves }
+    requires few { vec_len nodes.old.halves + path.left < 2 ^ 32 }
+    ensures made { (d : ℕ) (name : ℕ → Owner) (n : ℕ) (p : List Bool) → path.left < d
         → IsTree d (cells_of nodes.old) name i p → HasSpares (cells_of nodes.old) nodes.old.free name n
-        → IsPlaced d label (bits_of left q) hop (cells_of nodes.old) (cells_of nodes.new)
-        nodes.new.free name i p (λ a. lpm (laid (route_set label hop) (bits_of left q) (walks_at d
+        → IsPlaced d label (path_of path) hop (cells_of nodes.old) (cells_of nodes.new)
+        nodes.new.free name i p (λ a. lpm (laid (route_set label hop) (path_of path) (walks_at d
         (cells_of nodes.old) i).routes) a inherited) (best_in nodes.old) (best_in nodes.new) result }
     ensures steps { C.count steps.new ≤ C.count steps.old + new_nodes (cells_of nodes.old)
-        (bits_of left q) i }
+        (path_of path) i }
 {
     let node = read(nodes, i);
-    if left == 0 {
+    if path.left == 0 {
         return update_node(nodes, i, node, label, Some(hop));
     }
-    let at = left - 1;
-    let bit = bit_at(q, at);
+    let at = path.left - 1;
+    let rest = Path { left: at, ..path };
+    let bit = bit_at(path.bits, at);
     let below = node.route.hop.unwrap_or(inherited);
     match node.half(bit) {
         Some(j) => {
-            let changed = grow_label(nodes, j, q, at, below, label, hop, steps);
+            let changed = grow_label(nodes, j, rest, below, label, hop, steps);
             climb(nodes, i, label, changed)
         }
         None => {
             let best = fresh(at, below, label.route(hop));
             let j = split(nodes, i, node, bit, best);
             steps.tick();
-            let changed = grow_label(nodes, j, q, at, below, label, hop, steps);
+            let changed = grow_label(nodes, j, rest, below, label, hop, steps);
             climb(nodes, i, label, changed)
         }
     }
@@ -604,38 +601,38 @@ pub(crate) fn grow_label<C: Counter>(
 pub(crate) fn set_label(
     nodes: &mut Nodes,
     i: usize,
-    q: u128,
-    left: u8,
+    path: Path,
     inherited: u16,
     label: Label,
     hop: u16,
 ) -> Result<bool, AllocError>
-    requires bits { left ≤ 128 }
-    ensures made { IfOk result (λ more. (d : ℕ) (name : ℕ → Owner) (n : ℕ) (p : List Bool) → left < d
+    requires bits { path.left ≤ 128 }
+    ensures made { IfOk result (λ more. (d : ℕ) (name : ℕ → Owner) (n : ℕ) (p : List Bool) → path.left < d
         → IsTree d (cells_of nodes.old) name i p → HasSpares (cells_of nodes.old) nodes.old.free name n
-        → IsPlaced d label (bits_of left q) hop (cells_of nodes.old) (cells_of nodes.new)
-        nodes.new.free name i p (λ a. lpm (laid (route_set label hop) (bits_of left q) (walks_at d
+        → IsPlaced d label (path_of path) hop (cells_of nodes.old) (cells_of nodes.new)
+        nodes.new.free name i p (λ a. lpm (laid (route_set label hop) (path_of path) (walks_at d
         (cells_of nodes.old) i).routes) a inherited) (best_in nodes.old) (best_in nodes.new) more) }
     ensures err { OnErr result ((cells_of nodes.new ≡ cells_of nodes.old)
         × (nodes.new.free ≡ nodes.old.free) × ((j : ℕ) → best_in nodes.new j ≡ best_in nodes.old j)) }
-    ensures held { (d : ℕ) → left < d → has_node (bits_of left q) (walks_at d (cells_of nodes.old)
+    ensures held { (d : ℕ) → path.left < d → has_node (path_of path) (walks_at d (cells_of nodes.old)
         i).nodes ≡ true → IsOk result }
 {
     let node = read(nodes, i);
-    if left == 0 {
+    if path.left == 0 {
         return Ok(update_node(nodes, i, node, label, Some(hop)));
     }
-    let at = left - 1;
-    match node.half(bit_at(q, at)) {
+    let at = path.left - 1;
+    let rest = Path { left: at, ..path };
+    match node.half(bit_at(path.bits, at)) {
         Some(j) => {
             let below = node.route.hop.unwrap_or(inherited);
-            let changed = set_label(nodes, j, q, at, below, label, hop)?;
+            let changed = set_label(nodes, j, rest, below, label, hop)?;
             Ok(climb(nodes, i, label, changed))
         }
         None => {
-            reserve(nodes, left as usize)?;
+            reserve(nodes, path.left as usize)?;
             let mut none = Uncounted;
-            Ok(grow_label(nodes, i, q, left, inherited, label, hop, &mut none))
+            Ok(grow_label(nodes, i, path, inherited, label, hop, &mut none))
         }
     }
 }

@@ -1,17 +1,17 @@
 //! What a tree has at a prefix, and within it.
 
 ghost use Rattle.std.specs.Prelude.{◌≡◌, ◌≤◌, ◌<◌, ◌+◌, ◌-◌, ℕ, OnOk};
-ghost use Rattle.table_model.specs.Bits.{bits_of};
 ghost use Rattle.table_model.specs.Width.{width};
 ghost use Rattle.table_model.specs.Table.{cut};
 ghost use Rattle.table_model.specs.Entries.{of_table};
 ghost use Rattle.table_model.specs.Regions.{entry_at, lift};
 ghost use Rattle.fib_addr.specs.Views.{prefix_as};
 ghost use Rattle.orig_tree.specs.Arena.{cells_of, walks_at};
-ghost use Rattle.orig_tree.specs.Views.{FitsWidth};
+ghost use Rattle.orig_tree.specs.Views.{path_of, FitsWidth};
 ghost use Rattle.orig_tree.specs.Walk.{has_node};
 
 use crate::node::{Label, Nodes, read, tell};
+use crate::path::Path;
 use fib_addr::{EntrySink, Prefix, bit_at};
 use std::alloc::AllocError;
 
@@ -23,44 +23,46 @@ pub(crate) struct OwnRoute {
 }
 
 /// The hop of a path's own route.
-pub(crate) fn route_at(nodes: &Nodes, i: usize, q: u128, left: u8) -> Option<u16>
-    requires { left ≤ 128 }
-    ensures { (d : ℕ) → left < d → result
-        ≡ entry_at (bits_of left q) (walks_at d (cells_of nodes.now) i).routes }
+pub(crate) fn route_at(nodes: &Nodes, i: usize, path: Path) -> Option<u16>
+    requires { path.left ≤ 128 }
+    ensures { (d : ℕ) → path.left < d → result
+        ≡ entry_at (path_of path) (walks_at d (cells_of nodes.now) i).routes }
 {
     let node = read(nodes, i);
-    if left == 0 {
+    if path.left == 0 {
         return node.hop(Label::Route);
     }
-    let at = left - 1;
-    match node.half(bit_at(q, at)) {
+    let at = path.left - 1;
+    let rest = Path { left: at, ..path };
+    match node.half(bit_at(path.bits, at)) {
         None => None,
-        Some(j) => route_at(nodes, j, q, at),
+        Some(j) => route_at(nodes, j, rest),
     }
 }
 
 /// What there is at a path, in one walk.
-pub(crate) fn seek(nodes: &Nodes, i: usize, q: u128, left: u8) -> OwnRoute
-    requires { left ≤ 128 }
-    ensures node { (d : ℕ) → left < d → result.is_node ≡ has_node (bits_of left q) (walks_at d (cells_of
+pub(crate) fn seek(nodes: &Nodes, i: usize, path: Path) -> OwnRoute
+    requires { path.left ≤ 128 }
+    ensures node { (d : ℕ) → path.left < d → result.is_node ≡ has_node (path_of path) (walks_at d (cells_of
         nodes.now) i).nodes }
-    ensures route { (d : ℕ) → left < d → result.hop
-        ≡ entry_at (bits_of left q) (walks_at d (cells_of nodes.now) i).routes }
+    ensures route { (d : ℕ) → path.left < d → result.hop
+        ≡ entry_at (path_of path) (walks_at d (cells_of nodes.now) i).routes }
 {
     let node = read(nodes, i);
-    if left == 0 {
+    if path.left == 0 {
         return OwnRoute {
             is_node: true,
             hop: node.hop(Label::Route),
         };
     }
-    let at = left - 1;
-    match node.half(bit_at(q, at)) {
+    let at = path.left - 1;
+    let rest = Path { left: at, ..path };
+    match node.half(bit_at(path.bits, at)) {
         None => OwnRoute {
             is_node: false,
             hop: None,
         },
-        Some(j) => seek(nodes, j, q, at),
+        Some(j) => seek(nodes, j, rest),
     }
 }
 
@@ -68,27 +70,27 @@ pub(crate) fn seek(nodes: &Nodes, i: usize, q: u128, left: u8) -> OwnRoute
 pub(crate) fn tell_within<S: EntrySink>(
     nodes: &Nodes,
     i: usize,
-    q: u128,
-    left: u8,
+    path: Path,
     prefix: &Prefix,
     out: &mut S,
 ) -> Result<(), AllocError>
-    requires few { left ≤ 128 }
+    requires few { path.left ≤ 128 }
     requires ready { S.ready out.old }
     ensures ready { OnOk result (S.ready out.new) }
-    ensures takes { (d : ℕ) → left + (width prefix.now.family - prefix.now.len) < d
-        → FitsWidth (width prefix.now.family - prefix.now.len) (cut (bits_of left q) (walks_at d (cells_of
+    ensures takes { (d : ℕ) → path.left + (width prefix.now.family - prefix.now.len) < d
+        → FitsWidth (width prefix.now.family - prefix.now.len) (cut (path_of path) (walks_at d (cells_of
         nodes.now) i).entries) → OnOk result (S.takes out.old (of_table prefix.now.family
-        (lift (prefix_as prefix.now).bits (cut (bits_of left q) (walks_at d (cells_of nodes.now)
+        (lift (prefix_as prefix.now).bits (cut (path_of path) (walks_at d (cells_of nodes.now)
         i).entries))) out.new) }
 {
-    if left == 0 {
+    if path.left == 0 {
         tell(nodes, i, Label::Entry, prefix, out)?;
         return Ok(());
     }
-    let at = left - 1;
-    if let Some(j) = read(nodes, i).half(bit_at(q, at)) {
-        tell_within(nodes, j, q, at, prefix, out)?;
+    let at = path.left - 1;
+    let rest = Path { left: at, ..path };
+    if let Some(j) = read(nodes, i).half(bit_at(path.bits, at)) {
+        tell_within(nodes, j, rest, prefix, out)?;
     }
     Ok(())
 }

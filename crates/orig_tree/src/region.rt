@@ -1,18 +1,18 @@
 //! A region of a tree, which is asked for its best hops and what it costs.
 
 ghost use Rattle.std.specs.Prelude.{◌≡◌, ◌≢◌, ◌≤◌, ◌+◌, ◌++◌, ◌∷◌, [], true, false, ℕ, suc, List, Bool, Option, None, length, IfSome, IfNone, IfOk, IsTrue};
-ghost use Rattle.table_model.specs.Bits.{bits_of};
 ghost use Rattle.table_model.specs.Table.{root, half, cut, inherit, lpm};
 ghost use Rattle.table_model.specs.Sets.{set_of, k_of, is_in, smallest};
 ghost use Rattle.fib_addr.specs.HopSets.{SameHops};
 ghost use Rattle.orig_tree.specs.Spots.{spot_answers, spot_rows, EachFixed};
-ghost use Rattle.orig_tree.specs.Views.{FitsWidth};
+ghost use Rattle.orig_tree.specs.Views.{path_of, FitsWidth};
 ghost use Rattle.orig_tree.specs.Cover.{SomeGets};
 ghost use Rattle.orig_tree.specs.Within.{nodes_in};
 
 use crate::best::Best;
 use crate::counter::Counter;
 use crate::node::{Label, Nodes, best_at, cover, read};
+use crate::path::Path;
 use fib_addr::{HopSet, bit_at};
 use std::alloc::{AllocError, Global};
 use std::marker::Model;
@@ -171,26 +171,26 @@ impl<'a> TreeRegion<'a> {
     }
 }
 
-/// The region of a path of `left` bits below a region. A step is a region that is passed.
+/// The region of a path below a region. A step is a region that is passed.
 pub(crate) fn below<'a, C: Counter>(
     mut region: TreeRegion<'a>,
-    q: u128,
-    mut left: u8,
+    path: Path,
     steps: &mut C,
 ) -> TreeRegion<'a>
-    requires few { left ≤ region.bits }
-    requires most { left ≤ 128 }
-    ensures bits { result.bits + left ≡ region.entry.bits }
+    requires few { path.left ≤ region.bits }
+    requires most { path.left ≤ 128 }
+    ensures bits { result.bits + path.left ≡ region.entry.bits }
     ensures answers { (a : List Bool) → spot_answers result a
-        ≡ spot_answers region.entry (bits_of left q ++ a) }
-    ensures entries { result.entries ≡ cut (bits_of left q) region.entry.entries }
-    ensures nodes { length result.nodes ≡ nodes_in (bits_of left q) region.entry.nodes }
-    ensures steps { C.count steps.new ≤ C.count steps.old + left }
+        ≡ spot_answers region.entry (path_of path ++ a) }
+    ensures entries { result.entries ≡ cut (path_of path) region.entry.entries }
+    ensures nodes { length result.nodes ≡ nodes_in (path_of path) region.entry.nodes }
+    ensures steps { C.count steps.new ≤ C.count steps.old + path.left }
 {
+    let mut left = path.left;
     while left > 0 {
         steps.tick();
         left -= 1;
-        region = region.half(bit_at(q, left));
+        region = region.half(bit_at(path.bits, left));
     }
     region
 }

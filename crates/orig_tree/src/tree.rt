@@ -27,7 +27,7 @@ use crate::load::{insert_all, load_all};
 use crate::node::{Label, Nodes, answer, inherited, tell, uniform};
 use crate::node_ref::NodeRef;
 use crate::parts::{OwnRoute, route_at, seek, tell_within};
-use crate::path::path_bits;
+use crate::path::{Path, path_bits};
 use crate::region::{TreeRegion, below};
 use crate::source::EntrySource;
 use crate::undo::{Undo, keep_if, room_of};
@@ -294,7 +294,11 @@ impl Tree {
             bits: self.family.width(),
             hop: 0,
         };
-        below(whole, path_bits(prefix), prefix.len, steps)
+        let path = Path {
+            bits: path_bits(prefix),
+            left: prefix.len,
+        };
+        below(whole, path, steps)
     }
 
     /// How many nodes there are at the prefix and within it; 2^64 - 1 stands for all numbers that are greater. It takes no
@@ -304,7 +308,11 @@ impl Tree {
         ensures { result ≡ told (nodes_in (prefix_as prefix.now).bits self.now.nodes) }
     {
         let depth = self.family.width();
-        count_within(&self.nodes, 0, path_bits(prefix), prefix.len, depth)
+        let path = Path {
+            bits: path_bits(prefix),
+            left: prefix.len,
+        };
+        count_within(&self.nodes, 0, path, depth)
     }
 
     /// Makes the prefix a node, so that `set_route` and `set_entry` take no memory at it. New nodes are the prefix's and those
@@ -326,8 +334,11 @@ impl Tree {
         ensures held { has_node (prefix_as prefix.now).bits self.old.nodes ≡ true → IsOk result }
         ensures same { has_node (prefix_as prefix.now).bits self.old.nodes ≡ true → self.new ≡ self.old }
     {
-        let q = path_bits(prefix);
-        make_room(self.family, &mut self.nodes, &mut self.undo, q, prefix.len)
+        let path = Path {
+            bits: path_bits(prefix),
+            left: prefix.len,
+        };
+        make_room(self.family, &mut self.nodes, &mut self.undo, path)
     }
 
     /// Drops the nodes at the prefix and within it that have no route and no entry at them or within them, and those on the
@@ -342,9 +353,12 @@ impl Tree {
             (of_family self.old.family self.old.routes) (of_family self.old.family self.old.entries)
             self.old.nodes self.new.nodes }
     {
-        let q = path_bits(prefix);
+        let path = Path {
+            bits: path_bits(prefix),
+            left: prefix.len,
+        };
         self.undo = None;
-        drop_unused(self.family, &mut self.nodes, q, prefix.len);
+        drop_unused(self.family, &mut self.nodes, path);
     }
 
     /// Longest match among the routes: the hop of the longest route whose prefix the address begins with, or none.
@@ -352,14 +366,11 @@ impl Tree {
         requires { addr.now.family ≡ self.now.family }
         ensures { result.0 ≡ match_in self.now.routes (addr_as addr.now) }
     {
-        Hop(answer(
-            &self.nodes,
-            0,
-            Label::Route,
-            addr.bits,
-            self.family.width(),
-            0,
-        ))
+        let path = Path {
+            bits: addr.bits,
+            left: self.family.width(),
+        };
+        Hop(answer(&self.nodes, 0, Label::Route, path, 0))
     }
 
     /// Longest match among the entries.
@@ -367,14 +378,11 @@ impl Tree {
         requires { addr.now.family ≡ self.now.family }
         ensures { result.0 ≡ match_in self.now.entries (addr_as addr.now) }
     {
-        Hop(answer(
-            &self.nodes,
-            0,
-            Label::Entry,
-            addr.bits,
-            self.family.width(),
-            0,
-        ))
+        let path = Path {
+            bits: addr.bits,
+            left: self.family.width(),
+        };
+        Hop(answer(&self.nodes, 0, Label::Entry, path, 0))
     }
 
     /// The hop that every address of the prefix gets by longest match among the routes, or `None` if two get different
@@ -385,8 +393,11 @@ impl Tree {
         ensures one { IfSome result (λ hop. AllGet self.now.routes (prefix_as prefix.now) hop.0) }
         ensures differ { IfNone result (TwoDiffer self.now.routes (prefix_as prefix.now)) }
     {
-        let q = path_bits(prefix);
-        let hop = uniform(&self.nodes, 0, Label::Route, q, prefix.len, 0)?;
+        let path = Path {
+            bits: path_bits(prefix),
+            left: prefix.len,
+        };
+        let hop = uniform(&self.nodes, 0, Label::Route, path, 0)?;
         Some(Hop(hop))
     }
 
@@ -398,8 +409,11 @@ impl Tree {
         ensures one { IfSome result (λ hop. AllGet self.now.entries (prefix_as prefix.now) hop.0) }
         ensures differ { IfNone result (TwoDiffer self.now.entries (prefix_as prefix.now)) }
     {
-        let q = path_bits(prefix);
-        let hop = uniform(&self.nodes, 0, Label::Entry, q, prefix.len, 0)?;
+        let path = Path {
+            bits: path_bits(prefix),
+            left: prefix.len,
+        };
+        let hop = uniform(&self.nodes, 0, Label::Entry, path, 0)?;
         Some(Hop(hop))
     }
 
@@ -409,8 +423,11 @@ impl Tree {
         ensures { result.0 ≡ above (prefix_as prefix.now).bits
             (of_family self.now.family self.now.entries) 0 }
     {
-        let q = path_bits(prefix);
-        Hop(inherited(&self.nodes, 0, q, prefix.len, 0))
+        let path = Path {
+            bits: path_bits(prefix),
+            left: prefix.len,
+        };
+        Hop(inherited(&self.nodes, 0, path, 0))
     }
 
     /// The hop of the prefix's own route, if it has one.
@@ -420,8 +437,11 @@ impl Tree {
         ensures route { option_map (λ h. h.0) result
             ≡ lookup (same_prefix (prefix_as prefix.now)) self.now.routes }
     {
-        let q = path_bits(prefix);
-        let hop = route_at(&self.nodes, 0, q, prefix.len)?;
+        let path = Path {
+            bits: path_bits(prefix),
+            left: prefix.len,
+        };
+        let hop = route_at(&self.nodes, 0, path)?;
         Some(Hop(hop))
     }
 
@@ -432,7 +452,11 @@ impl Tree {
         ensures node { result.is_node ≡ has_node (prefix_as prefix.now).bits self.now.nodes }
         ensures route { result.hop ≡ lookup (same_prefix (prefix_as prefix.now)) self.now.routes }
     {
-        seek(&self.nodes, 0, path_bits(prefix), prefix.len)
+        let path = Path {
+            bits: path_bits(prefix),
+            left: prefix.len,
+        };
+        seek(&self.nodes, 0, path)
     }
 
     /// Sets the route of a prefix that is a node, or takes a prefix's route away, if it is known what there is at it.
@@ -462,23 +486,24 @@ impl Tree {
         ensures steps { C.count steps.new ≤ C.count steps.old + prefix.now.len + 1
             + nodes_in (prefix_as prefix.now).bits self.old.nodes }
     {
-        let q = path_bits(prefix);
+        let path = Path {
+            bits: path_bits(prefix),
+            left: prefix.len,
+        };
         let spare = mem::replace(&mut self.spare, Vec::new(self.alloc));
         let changes = update_route(
             self.alloc,
             self.family,
             &mut self.nodes,
-            q,
-            prefix.len,
+            path,
             set,
             spare,
             steps,
         )?;
         let undo = Undo {
-            q,
+            path,
             changes,
             hop: own.hop,
-            len: prefix.len,
         };
         self.spare = room_of(self.alloc, self.undo.take());
         self.undo = keep_if(own.is_node, undo);
@@ -497,9 +522,12 @@ impl Tree {
         ensures entries { IfOk result (λ v. map entry_as v.items
             ≡ filter (λ e. is_within e.0 (prefix_as prefix.now)) self.now.entries) }
     {
-        let q = path_bits(prefix);
+        let path = Path {
+            bits: path_bits(prefix),
+            left: prefix.len,
+        };
         let mut list = Vec::new(self.alloc);
-        tell_within(&self.nodes, 0, q, prefix.len, prefix, &mut list)?;
+        tell_within(&self.nodes, 0, path, prefix, &mut list)?;
         Ok(list)
     }
 
@@ -650,8 +678,11 @@ impl Tree {
           before = self.old.before;
         } }
     {
-        let q = path_bits(prefix);
-        change(self.family, &mut self.nodes, q, prefix.len, None)
+        let path = Path {
+            bits: path_bits(prefix),
+            left: prefix.len,
+        };
+        change(self.family, &mut self.nodes, path, None)
     }
 
     /// Sets the hop of the prefix's route. It costs the nodes on the way to the prefix, and those within it that no route of
@@ -711,14 +742,16 @@ impl Tree {
             self.alter_route(prefix, own, Some(hop.0), steps)?;
             return Ok(());
         }
-        let q = path_bits(prefix);
+        let path = Path {
+            bits: path_bits(prefix),
+            left: prefix.len,
+        };
         let spare = mem::replace(&mut self.spare, Vec::new(self.alloc));
         let room = insert_route(
             self.alloc,
             self.family,
             &mut self.nodes,
-            q,
-            prefix.len,
+            path,
             hop.0,
             spare,
             steps,
@@ -748,15 +781,11 @@ impl Tree {
         ensures err { OnErr result (self.new ≡ self.old) }
         ensures held { has_node (prefix_as prefix.now).bits self.old.nodes ≡ true → IsOk result }
     {
-        let q = path_bits(prefix);
-        insert_entry(
-            self.family,
-            &mut self.nodes,
-            &mut self.undo,
-            q,
-            prefix.len,
-            hop.0,
-        )?;
+        let path = Path {
+            bits: path_bits(prefix),
+            left: prefix.len,
+        };
+        insert_entry(self.family, &mut self.nodes, &mut self.undo, path, hop.0)?;
         Ok(())
     }
 }

@@ -3,15 +3,15 @@
 ghost use Rattle.std.specs.Prelude.{◌≡◌, Option, Some, None, cond};
 
 use crate::best::Change;
+use crate::path::Path;
 use std::alloc::Global;
 
 /// What a path had for a route, and what the nodes kept then: the changes that put it back, the last first.
 #[derive(Drop)]
 pub(crate) struct Undo {
-    pub(crate) q: u128,
+    pub(crate) path: Path,
     pub(crate) changes: Vec<Change>,
     pub(crate) hop: Option<u16>,
-    pub(crate) len: u8,
 }
 
 /// What is to be kept of a change, which can be taken back if its path was a node already.

@@ -1,11 +1,11 @@
 //! The array as one tree from its root on.
 
 ghost use Rattle.std.specs.Prelude.{◌≡◌, ◌≤◌, ℕ, OnOk, OnErr, IsOk, IfOk, true, Option, None, Some, vec_len, ◌+◌, ◌∷◌, []};
-ghost use Rattle.table_model.specs.Bits.{bits_of};
 ghost use Rattle.table_model.specs.Width.{width};
 ghost use Rattle.table_model.specs.Regions.{entry_at};
 ghost use Rattle.orig_tree.specs.Walk.{walks_of, no_walks, edited, CanEdit, has_node};
 ghost use Rattle.orig_tree.specs.Trims.{IsTrimmed};
+ghost use Rattle.orig_tree.specs.Views.{path_of};
 ghost use Rattle.orig_tree.specs.Arena.{blank_cell, cells_of, whole, IsArena, IsRoomier, HalvesStay};
 ghost use Rattle.orig_tree.specs.Bests.{best_in, best_one, bests_of, KeepsBest, IsLaid};
 ghost use Rattle.orig_tree.specs.Undos.{UndoesChange, CanUndo};
@@ -19,6 +19,7 @@ use crate::mend::plan;
 use crate::node::{
     Label, Nodes, assign, grow, grow_label, is_node, reserve, root_alone, set_label,
 };
+use crate::path::{Path, RouteEdit};
 use crate::undo::Undo;
 use fib_addr::Family;
 use std::alloc::{AllocError, Global};
@@ -45,32 +46,31 @@ pub(crate) fn make_room(
     family: Family,
     nodes: &mut Nodes,
     undo: &mut Option<Undo>,
-    q: u128,
-    len: u8,
+    path: Path,
 ) -> Result<(), AllocError>
-    requires few { len ≤ width family }
+    requires few { path.left ≤ width family }
     requires arena { IsArena family (cells_of nodes.old) nodes.old.free }
     requires best { KeepsBest family (cells_of nodes.old) (best_in nodes.old) }
     requires undo { CanUndo family (cells_of nodes.old) (best_in nodes.old) undo.old }
     ensures arena { IsArena family (cells_of nodes.new) nodes.new.free }
     ensures best { KeepsBest family (cells_of nodes.new) (best_in nodes.new) }
     ensures undo { CanUndo family (cells_of nodes.new) (best_in nodes.new) undo.new }
-    ensures walks { IsRoomier (bits_of len q) (whole family (cells_of nodes.old)) (whole family
+    ensures walks { IsRoomier (path_of path) (whole family (cells_of nodes.old)) (whole family
         (cells_of nodes.new)) }
-    ensures ok { OnOk result (has_node (bits_of len q) (whole family (cells_of nodes.new)).nodes
+    ensures ok { OnOk result (has_node (path_of path) (whole family (cells_of nodes.new)).nodes
         ≡ true) }
     ensures err { OnErr result ((whole family (cells_of nodes.new)
         ≡ whole family (cells_of nodes.old)) × (undo.new ≡ undo.old)) }
-    ensures held { has_node (bits_of len q) (whole family (cells_of nodes.old)).nodes ≡ true
+    ensures held { has_node (path_of path) (whole family (cells_of nodes.old)).nodes ≡ true
         → IsOk result × (whole family (cells_of nodes.new) ≡ whole family (cells_of nodes.old))
         × (undo.new ≡ undo.old) }
 {
     let _ = family;
-    if is_node(nodes, 0, q, len) {
+    if is_node(nodes, 0, path) {
         return Ok(());
     }
-    reserve(nodes, len as usize)?;
-    grow(nodes, 0, q, len, 0);
+    reserve(nodes, path.left as usize)?;
+    grow(nodes, 0, path, 0);
     *undo = None;
     Ok(())
 }
@@ -85,42 +85,34 @@ pub(crate) fn insert_route<C: Counter>(
     alloc: Global,
     family: Family,
     nodes: &mut Nodes,
-    q: u128,
-    len: u8,
+    path: Path,
     hop: u16,
     spare: Vec<Change>,
     steps: &mut C,
 ) -> Result<Vec<Change>, AllocError>
-    requires few { len ≤ width family }
+    requires few { path.left ≤ width family }
     requires arena { IsArena family (cells_of nodes.old) nodes.old.free }
     requires best { KeepsBest family (cells_of nodes.old) (best_in nodes.old) }
     ensures arena { IsArena family (cells_of nodes.new) nodes.new.free }
     ensures best { KeepsBest family (cells_of nodes.new) (best_in nodes.new) }
-    ensures laid { OnOk result (IsLaid Route (bits_of len q) hop (whole family (cells_of nodes.old)) (whole
+    ensures laid { OnOk result (IsLaid Route (path_of path) hop (whole family (cells_of nodes.old)) (whole
         family (cells_of nodes.new))) }
     ensures err { OnErr result ((cells_of nodes.new ≡ cells_of nodes.old)
         × ((j : ℕ) → best_in nodes.new j ≡ best_in nodes.old j)) }
-    ensures steps { C.count steps.new ≤ C.count steps.old + len + 1 + nodes_in (bits_of len q) (whole
+    ensures steps { C.count steps.new ≤ C.count steps.old + path.left + 1 + nodes_in (path_of path) (whole
         family (cells_of nodes.old)).nodes }
 {
-    reserve(nodes, len as usize)?;
+    reserve(nodes, path.left as usize)?;
     let depth = family.width();
-    let mut changes = no_changes(spare, depth)?;
-    plan(
-        alloc,
-        nodes,
-        0,
-        q,
-        len,
-        depth,
-        0,
-        Some(hop),
-        &mut changes,
-        steps,
-    )?;
-    commit(nodes, &mut changes);
-    grow_label(nodes, 0, q, len, 0, Label::Route, hop, steps);
-    Ok(changes)
+    let mut planned = no_changes(alloc, spare, depth)?;
+    let route = RouteEdit {
+        path,
+        hop: Some(hop),
+    };
+    plan(nodes, 0, route, depth, 0, &mut planned, steps)?;
+    commit(nodes, &mut planned.changes);
+    grow_label(nodes, 0, path, 0, Label::Route, hop, steps);
+    Ok(planned.changes)
 }
 
 /// Sets the route of a path that has a node, or takes the path's route away, with what is kept for the regions that it
@@ -133,40 +125,39 @@ pub(crate) fn update_route<C: Counter>(
     alloc: Global,
     family: Family,
     nodes: &mut Nodes,
-    q: u128,
-    len: u8,
+    path: Path,
     set: Option<u16>,
     spare: Vec<Change>,
     steps: &mut C,
 ) -> Result<Vec<Change>, AllocError>
-    requires few { len ≤ width family }
+    requires few { path.left ≤ width family }
     requires arena { IsArena family (cells_of nodes.old) nodes.old.free }
     requires best { KeepsBest family (cells_of nodes.old) (best_in nodes.old) }
-    requires allowed { CanEdit (bits_of len q) set (whole family (cells_of nodes.old)).nodes }
+    requires allowed { CanEdit (path_of path) set (whole family (cells_of nodes.old)).nodes }
     ensures arena { IsArena family (cells_of nodes.new) nodes.new.free }
     ensures best { KeepsBest family (cells_of nodes.new) (best_in nodes.new) }
-    ensures walks { OnOk result (whole family (cells_of nodes.new) ≡ edited Route (bits_of len q) set
+    ensures walks { OnOk result (whole family (cells_of nodes.new) ≡ edited Route (path_of path) set
         (whole family (cells_of nodes.old))) }
-    ensures back { IfOk result (λ v. (hop : Option ℕ) → hop ≡ entry_at (bits_of len q) (whole family
-        (cells_of nodes.old)).routes → has_node (bits_of len q) (whole family (cells_of
+    ensures back { IfOk result (λ v. (hop : Option ℕ) → hop ≡ entry_at (path_of path) (whole family
+        (cells_of nodes.old)).routes → has_node (path_of path) (whole family (cells_of
         nodes.old)).nodes ≡ true → UndoesChange family (whole family (cells_of nodes.old)).routes
         (cells_of nodes.new) (best_in nodes.new) (record {
-          q = q;
+          path = path;
           changes = v;
           hop = hop;
-          len = len;
         })) }
     ensures err { OnErr result ((cells_of nodes.new ≡ cells_of nodes.old)
         × ((j : ℕ) → best_in nodes.new j ≡ best_in nodes.old j)) }
-    ensures steps { C.count steps.new ≤ C.count steps.old + len + 1 + nodes_in (bits_of len q) (whole
+    ensures steps { C.count steps.new ≤ C.count steps.old + path.left + 1 + nodes_in (path_of path) (whole
         family (cells_of nodes.old)).nodes }
 {
     let depth = family.width();
-    let mut changes = no_changes(spare, depth)?;
-    plan(alloc, nodes, 0, q, len, depth, 0, set, &mut changes, steps)?;
-    commit(nodes, &mut changes);
-    assign(nodes, 0, Label::Route, q, len, set);
-    Ok(changes)
+    let mut planned = no_changes(alloc, spare, depth)?;
+    let route = RouteEdit { path, hop: set };
+    plan(nodes, 0, route, depth, 0, &mut planned, steps)?;
+    commit(nodes, &mut planned.changes);
+    assign(nodes, 0, Label::Route, path, set);
+    Ok(planned.changes)
 }
 
 /// Takes a change of a route back, with what was kept before, and returns the room that it took. It takes no memory.
@@ -175,29 +166,29 @@ pub(crate) fn take_back(family: Family, nodes: &mut Nodes, undo: Undo) -> Vec<Ch
     requires undo { CanUndo family (cells_of nodes.old) (best_in nodes.old) (Some undo) }
     ensures arena { IsArena family (cells_of nodes.new) nodes.new.free }
     ensures best { KeepsBest family (cells_of nodes.new) (best_in nodes.new) }
-    ensures walks { whole family (cells_of nodes.new) ≡ edited Route (bits_of undo.len undo.q)
+    ensures walks { whole family (cells_of nodes.new) ≡ edited Route (path_of undo.path)
         undo.hop (whole family (cells_of nodes.old)) }
 {
     let _ = family;
     let room = revert(nodes, undo.changes);
-    assign(nodes, 0, Label::Route, undo.q, undo.len, undo.hop);
+    assign(nodes, 0, Label::Route, undo.path, undo.hop);
     room
 }
 
 /// Sets the entry of a path that has a node, or takes the path's entry away.
-pub(crate) fn change(family: Family, nodes: &mut Nodes, q: u128, len: u8, hop: Option<u16>)
-    requires few { len ≤ width family }
+pub(crate) fn change(family: Family, nodes: &mut Nodes, path: Path, hop: Option<u16>)
+    requires few { path.left ≤ width family }
     requires arena { IsArena family (cells_of nodes.old) nodes.old.free }
-    requires allowed { CanEdit (bits_of len q) hop (whole family (cells_of nodes.old)).nodes }
+    requires allowed { CanEdit (path_of path) hop (whole family (cells_of nodes.old)).nodes }
     ensures arena { IsArena family (cells_of nodes.new) nodes.new.free }
-    ensures walks { whole family (cells_of nodes.new) ≡ edited Entry (bits_of len q) hop (whole
+    ensures walks { whole family (cells_of nodes.new) ≡ edited Entry (path_of path) hop (whole
         family (cells_of nodes.old)) }
     ensures halves { HalvesStay (cells_of nodes.old) (cells_of nodes.new) }
     ensures kept { bests_of nodes.new ≡ bests_of nodes.old }
     ensures len { vec_len nodes.new.halves ≡ vec_len nodes.old.halves }
 {
     let _ = family;
-    assign(nodes, 0, Label::Entry, q, len, hop);
+    assign(nodes, 0, Label::Entry, path, hop);
 }
 
 /// Makes a path a node and sets its entry. If it is no node yet, the last change of a route can't be taken back any more.
@@ -209,47 +200,46 @@ pub(crate) fn insert_entry(
     family: Family,
     nodes: &mut Nodes,
     undo: &mut Option<Undo>,
-    q: u128,
-    len: u8,
+    path: Path,
     hop: u16,
 ) -> Result<(), AllocError>
-    requires few { len ≤ width family }
+    requires few { path.left ≤ width family }
     requires arena { IsArena family (cells_of nodes.old) nodes.old.free }
     requires best { KeepsBest family (cells_of nodes.old) (best_in nodes.old) }
     requires undo { CanUndo family (cells_of nodes.old) (best_in nodes.old) undo.old }
     ensures arena { IsArena family (cells_of nodes.new) nodes.new.free }
     ensures best { KeepsBest family (cells_of nodes.new) (best_in nodes.new) }
     ensures undo { CanUndo family (cells_of nodes.new) (best_in nodes.new) undo.new }
-    ensures laid { OnOk result (IsLaid Entry (bits_of len q) hop (whole family (cells_of nodes.old)) (whole
+    ensures laid { OnOk result (IsLaid Entry (path_of path) hop (whole family (cells_of nodes.old)) (whole
         family (cells_of nodes.new))) }
     ensures err { OnErr result ((whole family (cells_of nodes.new)
         ≡ whole family (cells_of nodes.old)) × (undo.new ≡ undo.old)) }
-    ensures held { has_node (bits_of len q) (whole family (cells_of nodes.old)).nodes ≡ true
+    ensures held { has_node (path_of path) (whole family (cells_of nodes.old)).nodes ≡ true
         → IsOk result × (undo.new ≡ undo.old) }
 {
-    if undo.is_some() && is_node(nodes, 0, q, len) {
-        change(family, nodes, q, len, Some(hop));
+    if undo.is_some() && is_node(nodes, 0, path) {
+        change(family, nodes, path, Some(hop));
         return Ok(());
     }
-    set_label(nodes, 0, q, len, 0, Label::Entry, hop)?;
+    set_label(nodes, 0, path, 0, Label::Entry, hop)?;
     *undo = None;
     Ok(())
 }
 
 /// Drops the nodes of a path and below it that nothing uses. It changes no table.
-pub(crate) fn drop_unused(family: Family, nodes: &mut Nodes, q: u128, len: u8)
-    requires few { len ≤ width family }
+pub(crate) fn drop_unused(family: Family, nodes: &mut Nodes, path: Path)
+    requires few { path.left ≤ width family }
     requires arena { IsArena family (cells_of nodes.old) nodes.old.free }
     ensures arena { IsArena family (cells_of nodes.new) nodes.new.free }
     ensures routes { (whole family (cells_of nodes.new)).routes
         ≡ (whole family (cells_of nodes.old)).routes }
     ensures entries { (whole family (cells_of nodes.new)).entries
         ≡ (whole family (cells_of nodes.old)).entries }
-    ensures trimmed { IsTrimmed (bits_of len q) (whole family (cells_of nodes.old)) (whole family
+    ensures trimmed { IsTrimmed (path_of path) (whole family (cells_of nodes.old)) (whole family
         (cells_of nodes.new)) }
     ensures best { KeepsBest family (cells_of nodes.old) (best_in nodes.old)
         → KeepsBest family (cells_of nodes.new) (best_in nodes.new) }
     ensures len { vec_len nodes.new.halves ≡ vec_len nodes.old.halves }
 {
-    trim(nodes, 0, q, len, family.width());
+    trim(nodes, 0, path, family.width());
 }

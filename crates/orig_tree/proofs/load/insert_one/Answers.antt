@@ -10,5 +10,5 @@ returns-then-not-is_of c = λ rest. lays_other c.args.family c.args.label (cells
 
 pub returns : goal.returns
 returns c = λ rest.
-    lays_one c.args.family c.args.label c.path_bits-q.result c.args.entry.now (cells_of c.args.nodes.now) (cells_of c.set_label.new.nodes) c.args.nodes.now.free c.set_label.new.nodes.free (best_in c.args.nodes.now) (best_in c.set_label.new.nodes) c.in_ok-set_label.field-0 rest
-    (sym c.is_of.ensures ∙ c.if-not-is_of.false) c.path_bits-q.ensures c.requires.arena c.requires.order c.in_ok-set_label.ensures.made
+    lays_one c.args.family c.args.label c.path_bits.result c.args.entry.now (cells_of c.args.nodes.now) (cells_of c.set_label.new.nodes) c.args.nodes.now.free c.set_label.new.nodes.free (best_in c.args.nodes.now) (best_in c.set_label.new.nodes) c.in_ok-set_label.field-0 rest
+    (sym c.is_of.ensures ∙ c.if-not-is_of.false) c.path_bits.ensures c.requires.arena c.requires.order c.in_ok-set_label.ensures.made

@@ -9,20 +9,20 @@ use Rattle.orig_tree.proofs.Costing.{one_kept, both_kept}
 use Rattle.orig_tree.proofs.mend.+mend.Goals as goal
 
 pub mend-returns-then-depth-eq0-clause-best : goal.mend-returns-then-depth-eq0-clause-best
-mend-returns-then-depth-eq0-clause-best g t c = λ name p h s k u. mend_end (cells_of c.args.nodes.now) c.args.i c.args.hop c.args.depth (best_in c.args.nodes.now) c.args.out.now.items c.note.new.out.items c.one-best.result c.if-depth-eq0.true c.one-best.ensures c.in_ok-note.ensures name p s
+mend-returns-then-depth-eq0-clause-best g t c = λ name p h s k u. mend_end (cells_of c.args.nodes.now) c.args.i c.args.hop c.args.depth (best_in c.args.nodes.now) c.args.out.now.changes.items c.note.new.out.changes.items c.one-best.result c.if-depth-eq0.true c.one-best.ensures c.in_ok-note.ensures name p s
 
 pub mend-returns-clause-best : goal.mend-returns-clause-best
 mend-returns-clause-best g t c = mend_node (cells_of c.args.nodes.now) c.args.i c.read-node.result c.read-node.ensures (c.args.depth - 1) c.args.depth (omega (arith, c.if-depth-eq0.false)) c.half.result c.half-2.result c.half.ensures c.half-2.ensures
-    c.args.hop (best_in c.args.nodes.now) c.args.out.now.items c.mend_half.new.out.items c.mend_half-2.new.out.items c.note-2.new.out.items c.in_ok-low.low c.in_ok-high.high c.in_ok-best.best
+    c.args.hop (best_in c.args.nodes.now) c.args.out.now.changes.items c.mend_half.new.out.changes.items c.mend_half-2.new.out.changes.items c.note-2.new.out.changes.items c.in_ok-low.low c.in_ok-high.high c.in_ok-best.best
     c.in_ok-low.ensures.best c.in_ok-high.ensures.best c.in_ok-best.ensures c.in_ok-note-2.ensures
 
 pub mend_half-returns-in-None-clause-best : goal.mend_half-returns-in-None-clause-best
-mend_half-returns-in-None-clause-best g t c = λ name p h s k u. half_none (cells_of c.args.nodes.now) c.args.depth c.args.hop c.args.half (changed c.args.out.now.items (best_in c.args.nodes.now)) c.one.result c.in-None.is c.one.ensures name p
+mend_half-returns-in-None-clause-best g t c = λ name p h s k u. half_none (cells_of c.args.nodes.now) c.args.depth c.args.hop c.args.half (changed c.args.out.now.changes.items (best_in c.args.nodes.now)) c.one.result c.in-None.is c.one.ensures name p
 
 pub mend_half-returns-else-is_open-clause-best : goal.mend_half-returns-else-is_open-clause-best
 mend_half-returns-else-is_open-clause-best g t c =
     let S = best_in c.args.nodes.now in
-    let S0 = changed c.args.out.now.items S in
+    let S0 = changed c.args.out.now.changes.items S in
     let cells = cells_of c.args.nodes.now in
     IfOk-weaker c.copied.result (λ x. x ≡ c.best_at.result.now)
     (λ x. (name : ℕ → Owner) (p : List Bool) (h : ℕ) → IfHalf (λ j. IsTree (suc c.args.depth) cells name j p) c.args.half → IfHalf (λ j. AreBest (suc c.args.depth) cells S (λ a. lpm (walks_at (suc c.args.depth) cells j).routes a h) j) c.args.half → Untouched p name S S0 →
@@ -34,8 +34,8 @@ pub mend_half-returns-then-is_open-clause-best : goal.mend_half-returns-then-is_
 mend_half-returns-then-is_open-clause-best g t c =
     let own = open_own c.read.result.route.hop (cover_in c.read.result.route).passes c.is_open.result c.is_open.ensures c.if-is_open.true in
     let S = best_in c.args.nodes.now in
-    let S0 = changed c.args.out.now.items S in
-    let S1 = changed c.mend.new.out.items S in
+    let S0 = changed c.args.out.now.changes.items S in
+    let S1 = changed c.mend.new.out.changes.items S in
     let cells = cells_of c.args.nodes.now in
     IfOk-weaker c.mend.result
     (λ x. (name : ℕ → Owner) (p : List Bool) (h : ℕ) → IsTree (suc c.args.depth) cells name c.in-Some.j p → AreBest (suc c.args.depth) cells S (λ a. lpm (walks_at (suc c.args.depth) cells c.in-Some.j).routes a h) c.in-Some.j → Untouched p name S S0 →

@@ -12,27 +12,27 @@ use Rattle.orig_tree.proofs.Stopping.{plan_same, plan_stays}
 use Rattle.orig_tree.proofs.Costing.{way_end, way_step, way_new}
 use Rattle.orig_tree.proofs.mend.+plan.Goals as goal
 
-pub plan-returns-then-left-eq0-clause-best : goal.plan-returns-then-left-eq0-clause-best
-plan-returns-then-left-eq0-clause-best g t c = λ name p s k u.
+pub plan-returns-then-route-eq0-clause-best : goal.plan-returns-then-route-eq0-clause-best
+plan-returns-then-route-eq0-clause-best g t c = λ name p s k u.
     let S = best_in c.args.nodes.now in
-    plan_end (cells_of c.args.nodes.now) c.args.depth c.args.i c.args.left c.args.q c.args.inherited c.unwrap_or.result c.args.set name p (changed c.args.out.now.items S) (changed c.mend.new.out.items S) c.in_ok-mended.mended c.if-left-eq0.true c.unwrap_or.ensures
+    plan_end (cells_of c.args.nodes.now) c.args.depth c.args.i c.args.route.path.left c.args.route.path.bits c.args.inherited c.unwrap_or.result c.args.route.hop name p (changed c.args.out.now.changes.items S) (changed c.mend.new.out.changes.items S) c.in_ok-mended.mended c.if-route-eq0.true c.unwrap_or.ensures
     (c.in_ok-mended.ensures.best name p c.args.inherited s k u)
 
 pub plan-returns-in_default-clause-best : goal.plan-returns-in_default-clause-best
 plan-returns-in_default-clause-best g t c =
     let S = best_in c.args.nodes.now in
-    plan_stays (cells_of c.args.nodes.now) c.args.i c.read-node.result c.read-node.ensures (c.args.depth - 1) c.args.depth (omega (arith, c.if-left-eq0.false, c.requires.few)) c.bit_at-bit.result c.half.result (half_place c.read-node.result (not c.bit_at-bit.result)) c.half.ensures refl
-    c.args.left c.args.q c.args.inherited c.unwrap_or-hop.result c.args.set c.if-left-eq0.false c.bit_at-bit.ensures c.unwrap_or-hop.ensures
-    S c.args.out.now.items c.plan_half.new.out.items (kept_or c.in_ok-planned.planned (best_behind S c.half.result (best_one c.unwrap_or-hop.result))) c.in_ok-planned.ensures.best
+    plan_stays (cells_of c.args.nodes.now) c.args.i c.read-node.result c.read-node.ensures (c.args.depth - 1) c.args.depth (omega (arith, c.if-route-eq0.false, c.requires.few)) c.bit_at-bit.result c.half.result (half_place c.read-node.result (not c.bit_at-bit.result)) c.half.ensures refl
+    c.args.route.path.left c.args.route.path.bits c.args.inherited c.unwrap_or-hop.result c.args.route.hop c.if-route-eq0.false c.bit_at-bit.ensures c.unwrap_or-hop.ensures
+    S c.args.out.now.changes.items c.plan_half.new.out.changes.items (kept_or c.in_ok-planned.planned (best_behind S c.half.result (best_one c.unwrap_or-hop.result))) c.in_ok-planned.ensures.best
     (ap (λ o. kept_or o (best_behind S c.half.result (best_one c.unwrap_or-hop.result))) c.in_default.is)
 
 pub plan-returns-then-is_same-clause-best : goal.plan-returns-then-is_same-clause-best
 plan-returns-then-is_same-clause-best g t c =
     let S = best_in c.args.nodes.now in
     let old = best_behind S c.half.result (best_one c.unwrap_or-hop.result) in
-    plan_same (cells_of c.args.nodes.now) c.args.i c.read-node.result c.read-node.ensures (c.args.depth - 1) c.args.depth (omega (arith, c.if-left-eq0.false, c.requires.few)) c.bit_at-bit.result c.half.result c.half-2.result c.half.ensures c.half-2.ensures
-    c.args.left c.args.q c.args.inherited c.unwrap_or-hop.result c.args.set c.if-left-eq0.false c.bit_at-bit.ensures c.unwrap_or-hop.ensures
-    S c.args.out.now.items c.plan_half.new.out.items (kept_or c.in_ok-planned.planned old) c.half_keeps-far.result.now c.in_ok-best.best c.in_ok-planned.ensures.best
+    plan_same (cells_of c.args.nodes.now) c.args.i c.read-node.result c.read-node.ensures (c.args.depth - 1) c.args.depth (omega (arith, c.if-route-eq0.false, c.requires.few)) c.bit_at-bit.result c.half.result c.half-2.result c.half.ensures c.half-2.ensures
+    c.args.route.path.left c.args.route.path.bits c.args.inherited c.unwrap_or-hop.result c.args.route.hop c.if-route-eq0.false c.bit_at-bit.ensures c.unwrap_or-hop.ensures
+    S c.args.out.now.changes.items c.plan_half.new.out.changes.items (kept_or c.in_ok-planned.planned old) c.half_keeps-far.result.now c.in_ok-best.best c.in_ok-planned.ensures.best
     (c.half_keeps-far.ensures ∙ ap (best_behind S c.half-2.result) c.one-bare.ensures)
     (λ d f v w. c.in_ok-best.ensures d f (subst (λ (y : Best). IsRegionBest d (side c.bit_at-bit.result f) y) (ap (λ o. kept_or o old) c.in-Some.is) v) w)
     (c.is_same.ensures c.if-is_same.true ∙ c.best_at.ensures)
@@ -41,58 +41,58 @@ pub plan-returns-clause-best : goal.plan-returns-clause-best
 plan-returns-clause-best g t c =
     let S = best_in c.args.nodes.now in
     let old = best_behind S c.half.result (best_one c.unwrap_or-hop.result) in
-    plan_node (cells_of c.args.nodes.now) c.args.i c.read-node.result c.read-node.ensures (c.args.depth - 1) c.args.depth (omega (arith, c.if-left-eq0.false, c.requires.few)) c.bit_at-bit.result c.half.result c.half-2.result c.half.ensures c.half-2.ensures
-    c.args.left c.args.q c.args.inherited c.unwrap_or-hop.result c.args.set c.if-left-eq0.false c.bit_at-bit.ensures c.unwrap_or-hop.ensures
-    S c.args.out.now.items c.plan_half.new.out.items c.note.new.out.items (kept_or c.in_ok-planned.planned old) c.half_keeps-far.result.now c.in_ok-best.best
+    plan_node (cells_of c.args.nodes.now) c.args.i c.read-node.result c.read-node.ensures (c.args.depth - 1) c.args.depth (omega (arith, c.if-route-eq0.false, c.requires.few)) c.bit_at-bit.result c.half.result c.half-2.result c.half.ensures c.half-2.ensures
+    c.args.route.path.left c.args.route.path.bits c.args.inherited c.unwrap_or-hop.result c.args.route.hop c.if-route-eq0.false c.bit_at-bit.ensures c.unwrap_or-hop.ensures
+    S c.args.out.now.changes.items c.plan_half.new.out.changes.items c.note.new.out.changes.items (kept_or c.in_ok-planned.planned old) c.half_keeps-far.result.now c.in_ok-best.best
     c.in_ok-planned.ensures.best (c.half_keeps-far.ensures ∙ ap (best_behind S c.half-2.result) c.one-bare.ensures)
     (λ d f v w. c.in_ok-best.ensures d f (subst (λ (y : Best). IsRegionBest d (side c.bit_at-bit.result f) y) (ap (λ o. kept_or o old) c.in-Some.is) v) w)
     c.in_ok-note.ensures
 
 pub plan_half-returns-in-None-clause-best : goal.plan_half-returns-in-None-clause-best
-plan_half-returns-in-None-clause-best g t c = λ name p s k u. way_none (cells_of c.args.nodes.now) c.args.depth c.args.left c.args.q c.args.inherited c.args.set c.args.half (changed c.args.out.now.items (best_in c.args.nodes.now)) c.fresh.result c.in-None.is c.requires.few c.fresh.ensures name p
+plan_half-returns-in-None-clause-best g t c = λ name p s k u. way_none (cells_of c.args.nodes.now) c.args.depth c.args.route.path.left c.args.route.path.bits c.args.inherited c.args.route.hop c.args.half (changed c.args.out.now.changes.items (best_in c.args.nodes.now)) c.fresh.result c.in-None.is c.requires.few c.fresh.ensures name p
 
 pub plan-returns-in_err-mended-clause-steps : goal.plan-returns-in_err-mended-clause-steps
-plan-returns-in_err-mended-clause-steps g t c = way_end (cells_of c.args.nodes.now) c.args.i c.args.left c.args.q _ _ _ c.if-left-eq0.true c.mend.ensures.steps
+plan-returns-in_err-mended-clause-steps g t c = way_end (cells_of c.args.nodes.now) c.args.i c.args.route.path.left c.args.route.path.bits _ _ _ c.if-route-eq0.true c.mend.ensures.steps
 
-pub plan-returns-then-left-eq0-clause-steps : goal.plan-returns-then-left-eq0-clause-steps
-plan-returns-then-left-eq0-clause-steps g t c = way_end (cells_of c.args.nodes.now) c.args.i c.args.left c.args.q _ _ _ c.if-left-eq0.true c.mend.ensures.steps
+pub plan-returns-then-route-eq0-clause-steps : goal.plan-returns-then-route-eq0-clause-steps
+plan-returns-then-route-eq0-clause-steps g t c = way_end (cells_of c.args.nodes.now) c.args.i c.args.route.path.left c.args.route.path.bits _ _ _ c.if-route-eq0.true c.mend.ensures.steps
 
 pub plan-returns-in_err-planned-clause-steps : goal.plan-returns-in_err-planned-clause-steps
-plan-returns-in_err-planned-clause-steps g t c = way_step (cells_of c.args.nodes.now) c.args.i (c.args.depth - 1) c.args.depth c.args.left c.args.q c.bit_at-bit.result c.read-node.result c.half.result (g.C.Counter.count c.args.steps.now) (g.C.Counter.count c.plan_half.new.steps) (g.C.Counter.count c.plan_half.new.steps) c.read-node.ensures (omega (arith, c.if-left-eq0.false, c.requires.few)) c.if-left-eq0.false c.bit_at-bit.ensures c.half.ensures
+plan-returns-in_err-planned-clause-steps g t c = way_step (cells_of c.args.nodes.now) c.args.i (c.args.depth - 1) c.args.depth c.args.route.path.left c.args.route.path.bits c.bit_at-bit.result c.read-node.result c.half.result (g.C.Counter.count c.args.steps.now) (g.C.Counter.count c.plan_half.new.steps) (g.C.Counter.count c.plan_half.new.steps) c.read-node.ensures (omega (arith, c.if-route-eq0.false, c.requires.few)) c.if-route-eq0.false c.bit_at-bit.ensures c.half.ensures
     c.plan_half.ensures.steps (omega arith)
 
 pub plan-returns-in_default-clause-steps : goal.plan-returns-in_default-clause-steps
-plan-returns-in_default-clause-steps g t c = way_step (cells_of c.args.nodes.now) c.args.i (c.args.depth - 1) c.args.depth c.args.left c.args.q c.bit_at-bit.result c.read-node.result c.half.result (g.C.Counter.count c.args.steps.now) (g.C.Counter.count c.plan_half.new.steps) (g.C.Counter.count c.plan_half.new.steps) c.read-node.ensures (omega (arith, c.if-left-eq0.false, c.requires.few)) c.if-left-eq0.false c.bit_at-bit.ensures c.half.ensures
+plan-returns-in_default-clause-steps g t c = way_step (cells_of c.args.nodes.now) c.args.i (c.args.depth - 1) c.args.depth c.args.route.path.left c.args.route.path.bits c.bit_at-bit.result c.read-node.result c.half.result (g.C.Counter.count c.args.steps.now) (g.C.Counter.count c.plan_half.new.steps) (g.C.Counter.count c.plan_half.new.steps) c.read-node.ensures (omega (arith, c.if-route-eq0.false, c.requires.few)) c.if-route-eq0.false c.bit_at-bit.ensures c.half.ensures
     c.plan_half.ensures.steps (omega arith)
 
 pub plan-returns-in_err-best-clause-steps : goal.plan-returns-in_err-best-clause-steps
-plan-returns-in_err-best-clause-steps g t c = way_step (cells_of c.args.nodes.now) c.args.i (c.args.depth - 1) c.args.depth c.args.left c.args.q c.bit_at-bit.result c.read-node.result c.half.result (g.C.Counter.count c.args.steps.now) (g.C.Counter.count c.plan_half.new.steps) (g.C.Counter.count c.tick.new.self) c.read-node.ensures (omega (arith, c.if-left-eq0.false, c.requires.few)) c.if-left-eq0.false c.bit_at-bit.ensures c.half.ensures
+plan-returns-in_err-best-clause-steps g t c = way_step (cells_of c.args.nodes.now) c.args.i (c.args.depth - 1) c.args.depth c.args.route.path.left c.args.route.path.bits c.bit_at-bit.result c.read-node.result c.half.result (g.C.Counter.count c.args.steps.now) (g.C.Counter.count c.plan_half.new.steps) (g.C.Counter.count c.tick.new.self) c.read-node.ensures (omega (arith, c.if-route-eq0.false, c.requires.few)) c.if-route-eq0.false c.bit_at-bit.ensures c.half.ensures
     c.plan_half.ensures.steps c.tick.ensures
 
 pub plan-returns-then-is_same-clause-steps : goal.plan-returns-then-is_same-clause-steps
-plan-returns-then-is_same-clause-steps g t c = way_step (cells_of c.args.nodes.now) c.args.i (c.args.depth - 1) c.args.depth c.args.left c.args.q c.bit_at-bit.result c.read-node.result c.half.result (g.C.Counter.count c.args.steps.now) (g.C.Counter.count c.plan_half.new.steps) (g.C.Counter.count c.tick.new.self) c.read-node.ensures (omega (arith, c.if-left-eq0.false, c.requires.few)) c.if-left-eq0.false c.bit_at-bit.ensures c.half.ensures
+plan-returns-then-is_same-clause-steps g t c = way_step (cells_of c.args.nodes.now) c.args.i (c.args.depth - 1) c.args.depth c.args.route.path.left c.args.route.path.bits c.bit_at-bit.result c.read-node.result c.half.result (g.C.Counter.count c.args.steps.now) (g.C.Counter.count c.plan_half.new.steps) (g.C.Counter.count c.tick.new.self) c.read-node.ensures (omega (arith, c.if-route-eq0.false, c.requires.few)) c.if-route-eq0.false c.bit_at-bit.ensures c.half.ensures
     c.plan_half.ensures.steps c.tick.ensures
 
 pub plan-returns-in_err-note-clause-steps : goal.plan-returns-in_err-note-clause-steps
-plan-returns-in_err-note-clause-steps g t c = way_step (cells_of c.args.nodes.now) c.args.i (c.args.depth - 1) c.args.depth c.args.left c.args.q c.bit_at-bit.result c.read-node.result c.half.result (g.C.Counter.count c.args.steps.now) (g.C.Counter.count c.plan_half.new.steps) (g.C.Counter.count c.tick.new.self) c.read-node.ensures (omega (arith, c.if-left-eq0.false, c.requires.few)) c.if-left-eq0.false c.bit_at-bit.ensures c.half.ensures
+plan-returns-in_err-note-clause-steps g t c = way_step (cells_of c.args.nodes.now) c.args.i (c.args.depth - 1) c.args.depth c.args.route.path.left c.args.route.path.bits c.bit_at-bit.result c.read-node.result c.half.result (g.C.Counter.count c.args.steps.now) (g.C.Counter.count c.plan_half.new.steps) (g.C.Counter.count c.tick.new.self) c.read-node.ensures (omega (arith, c.if-route-eq0.false, c.requires.few)) c.if-route-eq0.false c.bit_at-bit.ensures c.half.ensures
     c.plan_half.ensures.steps c.tick.ensures
 
 pub plan-returns-clause-steps : goal.plan-returns-clause-steps
-plan-returns-clause-steps g t c = way_step (cells_of c.args.nodes.now) c.args.i (c.args.depth - 1) c.args.depth c.args.left c.args.q c.bit_at-bit.result c.read-node.result c.half.result (g.C.Counter.count c.args.steps.now) (g.C.Counter.count c.plan_half.new.steps) (g.C.Counter.count c.tick.new.self) c.read-node.ensures (omega (arith, c.if-left-eq0.false, c.requires.few)) c.if-left-eq0.false c.bit_at-bit.ensures c.half.ensures
+plan-returns-clause-steps g t c = way_step (cells_of c.args.nodes.now) c.args.i (c.args.depth - 1) c.args.depth c.args.route.path.left c.args.route.path.bits c.bit_at-bit.result c.read-node.result c.half.result (g.C.Counter.count c.args.steps.now) (g.C.Counter.count c.plan_half.new.steps) (g.C.Counter.count c.tick.new.self) c.read-node.ensures (omega (arith, c.if-route-eq0.false, c.requires.few)) c.if-route-eq0.false c.bit_at-bit.ensures c.half.ensures
     c.plan_half.ensures.steps c.tick.ensures
 
 pub plan_half-returns-in-None-clause-steps : goal.plan_half-returns-in-None-clause-steps
-plan_half-returns-in-None-clause-steps g t c = way_new (cells_of c.args.nodes.now) c.args.left c.args.q _ c.args.half _ c.in-None.is
+plan_half-returns-in-None-clause-steps g t c = way_new (cells_of c.args.nodes.now) c.args.route.path.left c.args.route.path.bits _ c.args.half _ c.in-None.is
 
 pub plan_half-returns-in-Some-clause-best : goal.plan_half-returns-in-Some-clause-best
 plan_half-returns-in-Some-clause-best g t c =
     let S = best_in c.args.nodes.now in
-    let S0 = changed c.args.out.now.items S in
-    let S1 = changed c.plan.new.out.items S in
+    let S0 = changed c.args.out.now.changes.items S in
+    let S1 = changed c.plan.new.out.changes.items S in
     let cells = cells_of c.args.nodes.now in
     IfOk-weaker c.plan.result
     (λ x. (name : ℕ → Owner) (p : List Bool) → IsTree (suc c.args.depth) cells name c.in-Some.j p → AreBest (suc c.args.depth) cells S (λ a. lpm (walks_at (suc c.args.depth) cells c.in-Some.j).routes a c.args.inherited) c.in-Some.j → Untouched p name S S0 →
-    IsMended c.args.depth cells name c.in-Some.j p (λ a. lpm (edit (bits_of c.args.left c.args.q) c.args.set (walks_at (suc c.args.depth) cells c.in-Some.j).routes) a c.args.inherited) S0 S1 (kept_or x (S c.in-Some.j)))
+    IsMended c.args.depth cells name c.in-Some.j p (λ a. lpm (edit (bits_of c.args.route.path.left c.args.route.path.bits) c.args.route.hop (walks_at (suc c.args.depth) cells c.in-Some.j).routes) a c.args.inherited) S0 S1 (kept_or x (S c.in-Some.j)))
     (λ x. (name : ℕ → Owner) (p : List Bool) → IfHalf (λ j. IsTree (suc c.args.depth) cells name j p) c.args.half → IfHalf (λ j. AreBest (suc c.args.depth) cells S (λ a. lpm (walks_at (suc c.args.depth) cells j).routes a c.args.inherited) j) c.args.half → Untouched p name S S0 →
-    HalfMended c.args.depth cells name c.args.half p (λ a. lpm (edit (bits_of c.args.left c.args.q) c.args.set (from_half (walks_at (suc c.args.depth) cells) c.args.half).routes) a c.args.inherited) S0 S1 (kept_or x (best_behind S c.args.half (best_one c.args.inherited))))
-    (λ x m. way_some cells c.args.depth c.args.left c.args.q c.args.inherited c.args.set c.args.half c.in-Some.j S S0 S1 x c.in-Some.is m) c.plan.ensures.best
+    HalfMended c.args.depth cells name c.args.half p (λ a. lpm (edit (bits_of c.args.route.path.left c.args.route.path.bits) c.args.route.hop (from_half (walks_at (suc c.args.depth) cells) c.args.half).routes) a c.args.inherited) S0 S1 (kept_or x (best_behind S c.args.half (best_one c.args.inherited))))
+    (λ x m. way_some cells c.args.depth c.args.route.path.left c.args.route.path.bits c.args.inherited c.args.route.hop c.args.half c.in-Some.j S S0 S1 x c.in-Some.is m) c.plan.ensures.best

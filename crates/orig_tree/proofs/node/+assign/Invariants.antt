@@ -1,4 +1,4 @@
 use Rattle.orig_tree.proofs.node.+assign.Given as goal
 
 abbrev pub decreases-assign : goal.decreases-assign
-decreases-assign l = l.left
+decreases-assign l = l.path.left

@@ -1,4 +1,4 @@
 use Rattle.orig_tree.proofs.node.+grow.Given as goal
 
 abbrev pub decreases-grow : goal.decreases-grow
-decreases-grow l = l.left
+decreases-grow l = l.path.left

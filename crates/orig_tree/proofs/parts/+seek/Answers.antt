@@ -9,28 +9,28 @@ use Rattle.orig_tree.proofs.Rooms.{end_node, step_node, no_node}
 use Rattle.orig_tree.proofs.Within.{at_end, route_step, no_route}
 use Rattle.orig_tree.proofs.parts.+seek.Goals as goal
 
-pub returns-then-left-eq0-clause-node : goal.returns-then-left-eq0-clause-node
-returns-then-left-eq0-clause-node t c = λ d l. end_node (cells_of c.args.nodes.now) c.args.i c.args.left c.args.q d c.if-left-eq0.true l
+pub returns-then-path-eq0-clause-node : goal.returns-then-path-eq0-clause-node
+returns-then-path-eq0-clause-node t c = λ d l. end_node (cells_of c.args.nodes.now) c.args.i c.args.path.left c.args.path.bits d c.if-path-eq0.true l
 
-pub returns-then-left-eq0-clause-route : goal.returns-then-left-eq0-clause-route
-returns-then-left-eq0-clause-route t c = λ d l.
+pub returns-then-path-eq0-clause-route : goal.returns-then-path-eq0-clause-route
+returns-then-path-eq0-clause-route t c = λ d l.
     let cells = cells_of c.args.nodes.now in
-    at_end (walks_at d cells c.args.i).routes c.args.left c.args.q c.hop.result c.if-left-eq0.true (own_hop Route d cells c.args.i c.read-node.result c.hop.result (λ e. omega arith) c.read-node.ensures c.hop.ensures)
+    at_end (walks_at d cells c.args.i).routes c.args.path.left c.args.path.bits c.hop.result c.if-path-eq0.true (own_hop Route d cells c.args.i c.read-node.result c.hop.result (λ e. omega arith) c.read-node.ensures c.hop.ensures)
 
 pub returns-in-None-clause-node : goal.returns-in-None-clause-node
-returns-in-None-clause-node t c = λ d l. step_node (cells_of c.args.nodes.now) c.read-node.result c.args.i c.args.left c.args.q c.bit_at.result c.half.result _ d c.read-node.ensures c.half.ensures c.if-left-eq0.false c.bit_at.ensures
+returns-in-None-clause-node t c = λ d l. step_node (cells_of c.args.nodes.now) c.read-node.result c.args.i c.args.path.left c.args.path.bits c.bit_at.result c.half.result _ d c.read-node.ensures c.half.ensures c.if-path-eq0.false c.bit_at.ensures
     (λ e m. no_node (cells_of c.args.nodes.now) c.half.result _ e c.in-None.is) l
 
 pub returns-in-None-clause-route : goal.returns-in-None-clause-route
 returns-in-None-clause-route t c = λ d l.
-    route_step (cells_of c.args.nodes.now) c.read-node.result c.args.i c.args.left c.args.q c.bit_at.result c.half.result c.read-node.ensures c.half.ensures c.if-left-eq0.false c.bit_at.ensures _ d
-    (λ e m. no_route (cells_of c.args.nodes.now) c.half.result (bits_of (c.args.left - 1) c.args.q) e c.in-None.is) l
+    route_step (cells_of c.args.nodes.now) c.read-node.result c.args.i c.args.path.left c.args.path.bits c.bit_at.result c.half.result c.read-node.ensures c.half.ensures c.if-path-eq0.false c.bit_at.ensures _ d
+    (λ e m. no_route (cells_of c.args.nodes.now) c.half.result (bits_of (c.args.path.left - 1) c.args.path.bits) e c.in-None.is) l
 
 pub returns-in-Some-clause-node : goal.returns-in-Some-clause-node
-returns-in-Some-clause-node t c = λ d l. step_node (cells_of c.args.nodes.now) c.read-node.result c.args.i c.args.left c.args.q c.bit_at.result c.half.result _ d c.read-node.ensures c.half.ensures c.if-left-eq0.false c.bit_at.ensures
-    (λ e m. c.seek.ensures.node e m ∙ sym (ap (λ o. has_node (bits_of (c.args.left - 1) c.args.q) (from_half (walks_at e (cells_of c.args.nodes.now)) o).nodes) c.in-Some.is)) l
+returns-in-Some-clause-node t c = λ d l. step_node (cells_of c.args.nodes.now) c.read-node.result c.args.i c.args.path.left c.args.path.bits c.bit_at.result c.half.result _ d c.read-node.ensures c.half.ensures c.if-path-eq0.false c.bit_at.ensures
+    (λ e m. c.seek.ensures.node e m ∙ sym (ap (λ o. has_node (bits_of (c.args.path.left - 1) c.args.path.bits) (from_half (walks_at e (cells_of c.args.nodes.now)) o).nodes) c.in-Some.is)) l
 
 pub returns-in-Some-clause-route : goal.returns-in-Some-clause-route
 returns-in-Some-clause-route t c = λ d l.
-    route_step (cells_of c.args.nodes.now) c.read-node.result c.args.i c.args.left c.args.q c.bit_at.result c.half.result c.read-node.ensures c.half.ensures c.if-left-eq0.false c.bit_at.ensures _ d
-    (λ e m. c.seek.ensures.route e m ∙ sym (ap (λ o. entry_at (bits_of (c.args.left - 1) c.args.q) (from_half (walks_at e (cells_of c.args.nodes.now)) o).routes) c.in-Some.is)) l
+    route_step (cells_of c.args.nodes.now) c.read-node.result c.args.i c.args.path.left c.args.path.bits c.bit_at.result c.half.result c.read-node.ensures c.half.ensures c.if-path-eq0.false c.bit_at.ensures _ d
+    (λ e m. c.seek.ensures.route e m ∙ sym (ap (λ o. entry_at (bits_of (c.args.path.left - 1) c.args.path.bits) (from_half (walks_at e (cells_of c.args.nodes.now)) o).routes) c.in-Some.is)) l

@@ -27,15 +27,15 @@ returns-in_err-set_label-clause-undo c =
 
 pub returns-clause-arena : goal.returns-clause-arena
 returns-clause-arena c =
-    (is_entered c.args.family c.args.q c.args.len c.args.hop c.args.nodes.now.free c.set_label.new.nodes.free (cells_of c.args.nodes.now) (cells_of c.set_label.new.nodes) (best_in c.args.nodes.now) (best_in c.set_label.new.nodes) c.in_ok-set_label.field-0
+    (is_entered c.args.family c.args.path.bits c.args.path.left c.args.hop c.args.nodes.now.free c.set_label.new.nodes.free (cells_of c.args.nodes.now) (cells_of c.set_label.new.nodes) (best_in c.args.nodes.now) (best_in c.set_label.new.nodes) c.in_ok-set_label.field-0
     c.requires.few c.requires.arena c.requires.best c.in_ok-set_label.ensures.made).0
 
 pub returns-clause-best : goal.returns-clause-best
 returns-clause-best c =
-    (is_entered c.args.family c.args.q c.args.len c.args.hop c.args.nodes.now.free c.set_label.new.nodes.free (cells_of c.args.nodes.now) (cells_of c.set_label.new.nodes) (best_in c.args.nodes.now) (best_in c.set_label.new.nodes) c.in_ok-set_label.field-0
+    (is_entered c.args.family c.args.path.bits c.args.path.left c.args.hop c.args.nodes.now.free c.set_label.new.nodes.free (cells_of c.args.nodes.now) (cells_of c.set_label.new.nodes) (best_in c.args.nodes.now) (best_in c.set_label.new.nodes) c.in_ok-set_label.field-0
     c.requires.few c.requires.arena c.requires.best c.in_ok-set_label.ensures.made).1
 
 pub returns-clause-laid : goal.returns-clause-laid
 returns-clause-laid c =
-    (is_entered c.args.family c.args.q c.args.len c.args.hop c.args.nodes.now.free c.set_label.new.nodes.free (cells_of c.args.nodes.now) (cells_of c.set_label.new.nodes) (best_in c.args.nodes.now) (best_in c.set_label.new.nodes) c.in_ok-set_label.field-0
+    (is_entered c.args.family c.args.path.bits c.args.path.left c.args.hop c.args.nodes.now.free c.set_label.new.nodes.free (cells_of c.args.nodes.now) (cells_of c.set_label.new.nodes) (best_in c.args.nodes.now) (best_in c.set_label.new.nodes) c.in_ok-set_label.field-0
     c.requires.few c.requires.arena c.requires.best c.in_ok-set_label.ensures.made).2

@@ -23,7 +23,7 @@ use Rattle.orig_tree.proofs.tree.Tree.alter_route.Goals as goal
 pub update_route-requires-clause-allowed : goal.update_route-requires-clause-allowed
 update_route-requires-clause-allowed g c =
     let f = c.self.inside.family in
-    subst (λ (b : List _). CanEdit b c.args.set (whole f (cells_of c.self.inside.nodes)).nodes) (sym c.path_bits-q.ensures)
+    subst (λ (b : List _). CanEdit b c.args.set (whole f (cells_of c.self.inside.nodes)).nodes) (sym c.path_bits.ensures)
     (subst (λ (s : Labels). CanEdit (prefix_as c.args.prefix.now).bits c.args.set s.nodes) (sym c.self.view_is) c.requires.allowed)
 
 pub invariant_of-self : goal.invariant_of-self
@@ -45,15 +45,15 @@ invariant_of-self-2 g c =
     let p = c.args.prefix.now in
     let fam : p.family ≡ f = c.requires.family ∙ sym (ap (λ (s : Labels). s.family) c.self.view_is) in
     let few = few_bits p f fam in
-    let l : length (bits_of p.len c.path_bits-q.result) ≤ width f = omega (arith, length-bits_of p.len c.path_bits-q.result, few) in
+    let l : length (bits_of p.len c.path_bits.result) ≤ width f = omega (arith, length-bits_of p.len c.path_bits.result, few) in
     let old = whole f (cells_of c.self.inside.nodes) in
     let new = whole f (cells_of c.update_route.new.nodes) in
     let view = ap (λ (s : Labels). s.routes) c.self.view_is in
-    let own : c.args.own.hop ≡ entry_at (bits_of p.len c.path_bits-q.result) old.routes = c.requires.route ∙ sym (own_of p f (bits_of p.len c.path_bits-q.result) old.routes c.args.self.now.routes _ fam c.path_bits-q.ensures view refl) in
+    let own : c.args.own.hop ≡ entry_at (bits_of p.len c.path_bits.result) old.routes = c.requires.route ∙ sym (own_of p f (bits_of p.len c.path_bits.result) old.routes c.args.self.now.routes _ fam c.path_bits.ensures view refl) in
     let w = c.in_ok-changes.ensures.walks in
-    let has = ap (λ b. has_node b old.nodes) c.path_bits-q.ensures ∙ ap (λ (s : Labels). has_node (prefix_as p).bits s.nodes) c.self.view_is in (
+    let has = ap (λ b. has_node b old.nodes) c.path_bits.ensures ∙ ap (λ (s : Labels). has_node (prefix_as p).bits s.nodes) c.self.view_is in (
       c.update_route.ensures.arena,
-      in_place_edit f (bits_of p.len c.path_bits-q.result) c.args.set old.routes new.routes l (ap (λ (n : Walks). n.routes) w) c.self.invariant.1,
+      in_place_edit f (bits_of p.len c.path_bits.result) c.args.set old.routes new.routes l (ap (λ (n : Walks). n.routes) w) c.self.invariant.1,
       same_rows f old.entries new.entries (ap (λ (n : Walks). n.entries) w) c.self.invariant.2,
       c.update_route.ensures.best,
       subst (λ (o : Option Undo). CanUndo f (cells_of c.update_route.new.nodes) (best_in c.update_route.new.nodes) o) (sym c.keep_if.ensures)
@@ -66,9 +66,9 @@ returns-clause-routes g c =
     let p = c.args.prefix.now in
     let f = c.self.inside.family in
     let fam : p.family ≡ f = c.requires.family ∙ sym (ap (λ (s : Labels). s.family) c.self.view_is) in
-    let l : length (bits_of p.len c.path_bits-q.result) ≤ width f = omega (arith, length-bits_of p.len c.path_bits-q.result, few_bits p f fam) in
-    entries_edit f p.family (bits_of p.len c.path_bits-q.result) c.args.set (whole f (cells_of c.self.inside.nodes)).routes (whole f (cells_of c.update_route.new.nodes)).routes c.args.self.now.routes l fam (ap (λ (n : Walks). n.routes) c.in_ok-changes.ensures.walks) (ap (λ (s : Labels). s.routes) c.self.view_is) c.self.invariant.1
-    ∙ ap (λ b. routed (let x : Prefix = record { family = p.family; bits = b } in x) c.args.set c.args.self.now.routes) c.path_bits-q.ensures
+    let l : length (bits_of p.len c.path_bits.result) ≤ width f = omega (arith, length-bits_of p.len c.path_bits.result, few_bits p f fam) in
+    entries_edit f p.family (bits_of p.len c.path_bits.result) c.args.set (whole f (cells_of c.self.inside.nodes)).routes (whole f (cells_of c.update_route.new.nodes)).routes c.args.self.now.routes l fam (ap (λ (n : Walks). n.routes) c.in_ok-changes.ensures.walks) (ap (λ (s : Labels). s.routes) c.self.view_is) c.self.invariant.1
+    ∙ ap (λ b. routed (let x : Prefix = record { family = p.family; bits = b } in x) c.args.set c.args.self.now.routes) c.path_bits.ensures
 
 pub returns-clause-before : goal.returns-clause-before
 returns-clause-before g c = λ there.
@@ -77,8 +77,8 @@ returns-clause-before g c = λ there.
     let fam : p.family ≡ f = c.requires.family ∙ sym (ap (λ (s : Labels). s.family) c.self.view_is) in
     let old = whole f (cells_of c.self.inside.nodes) in
     let view = ap (λ (s : Labels). s.routes) c.self.view_is in
-    let own : c.args.own.hop ≡ entry_at (bits_of p.len c.path_bits-q.result) old.routes = c.requires.route ∙ sym (own_of p f (bits_of p.len c.path_bits-q.result) old.routes c.args.self.now.routes _ fam c.path_bits-q.ensures view refl) in
-    let has = ap (λ b. has_node b old.nodes) c.path_bits-q.ensures ∙ (ap (λ (s : Labels). has_node (prefix_as p).bits s.nodes) c.self.view_is ∙ there) in
+    let own : c.args.own.hop ≡ entry_at (bits_of p.len c.path_bits.result) old.routes = c.requires.route ∙ sym (own_of p f (bits_of p.len c.path_bits.result) old.routes c.args.self.now.routes _ fam c.path_bits.ensures view refl) in
+    let has = ap (λ b. has_node b old.nodes) c.path_bits.ensures ∙ (ap (λ (s : Labels). has_node (prefix_as p).bits s.nodes) c.self.view_is ∙ there) in
     ap (λ (o : Option Undo). of_table f (routes_before o (whole f (cells_of c.update_route.new.nodes)).routes)) c.keep_if.ensures
     ∙ (undone_same c.args.own.is_node f (whole f (cells_of c.update_route.new.nodes)).routes old.routes _ (c.requires.node ∙ there) (c.in_ok-changes.ensures.back c.args.own.hop own has).routes
     ∙ view)
@@ -87,14 +87,14 @@ pub returns-in_err-changes-clause-steps : goal.returns-in_err-changes-clause-ste
 returns-in_err-changes-clause-steps g c =
     let f = c.self.inside.family in
     let p = c.args.prefix.now in
-    let same : nodes_in (bits_of p.len c.path_bits-q.result) (whole f (cells_of c.self.inside.nodes)).nodes ≡ nodes_in (prefix_as p).bits c.args.self.now.nodes =
-    ap (λ b. nodes_in b (whole f (cells_of c.self.inside.nodes)).nodes) c.path_bits-q.ensures ∙ ap (λ (s : Labels). nodes_in (prefix_as p).bits s.nodes) c.self.view_is in
+    let same : nodes_in (bits_of p.len c.path_bits.result) (whole f (cells_of c.self.inside.nodes)).nodes ≡ nodes_in (prefix_as p).bits c.args.self.now.nodes =
+    ap (λ b. nodes_in b (whole f (cells_of c.self.inside.nodes)).nodes) c.path_bits.ensures ∙ ap (λ (s : Labels). nodes_in (prefix_as p).bits s.nodes) c.self.view_is in
     omega (arith, c.update_route.ensures.steps, same)
 
 pub returns-clause-steps : goal.returns-clause-steps
 returns-clause-steps g c =
     let f = c.self.inside.family in
     let p = c.args.prefix.now in
-    let same : nodes_in (bits_of p.len c.path_bits-q.result) (whole f (cells_of c.self.inside.nodes)).nodes ≡ nodes_in (prefix_as p).bits c.args.self.now.nodes =
-    ap (λ b. nodes_in b (whole f (cells_of c.self.inside.nodes)).nodes) c.path_bits-q.ensures ∙ ap (λ (s : Labels). nodes_in (prefix_as p).bits s.nodes) c.self.view_is in
+    let same : nodes_in (bits_of p.len c.path_bits.result) (whole f (cells_of c.self.inside.nodes)).nodes ≡ nodes_in (prefix_as p).bits c.args.self.now.nodes =
+    ap (λ b. nodes_in b (whole f (cells_of c.self.inside.nodes)).nodes) c.path_bits.ensures ∙ ap (λ (s : Labels). nodes_in (prefix_as p).bits s.nodes) c.self.view_is in
     omega (arith, c.update_route.ensures.steps, same)

@@ -19,7 +19,7 @@ pub invariant_of-self : goal.invariant_of-self
 invariant_of-self c = (
   c.change.ensures.arena,
   same_rows c.self.inside.family (whole c.self.inside.family (cells_of c.self.inside.nodes)).routes (whole c.self.inside.family (cells_of c.change.new.nodes)).routes (ap (λ (n : Walks). n.routes) c.change.ensures.walks) c.self.invariant.1,
-  in_place_without c.self.inside.family (bits_of c.args.prefix.now.len c.path_bits-q.result) (whole c.self.inside.family (cells_of c.self.inside.nodes)).entries (whole c.self.inside.family (cells_of c.change.new.nodes)).entries (ap (λ (n : Walks). n.entries) c.change.ensures.walks) c.self.invariant.2,
+  in_place_without c.self.inside.family (bits_of c.args.prefix.now.len c.path_bits.result) (whole c.self.inside.family (cells_of c.self.inside.nodes)).entries (whole c.self.inside.family (cells_of c.change.new.nodes)).entries (ap (λ (n : Walks). n.entries) c.change.ensures.walks) c.self.invariant.2,
   subst (λ (K : ℕ → Best). KeepsBest c.self.inside.family (cells_of c.change.new.nodes) K) (sym (kept_is c.self.inside.nodes c.change.new.nodes c.change.ensures.kept))
       (stays_by c.self.inside.family (cells_of c.self.inside.nodes) (cells_of c.change.new.nodes) (best_in c.self.inside.nodes) c.change.ensures.halves (ap (λ (n : Walks). n.routes) c.change.ensures.walks) c.self.invariant.3),
   subst (λ (K : ℕ → Best). CanUndo c.self.inside.family (cells_of c.change.new.nodes) K c.self.inside.undo) (sym (kept_is c.self.inside.nodes c.change.new.nodes c.change.ensures.kept))
@@ -31,7 +31,7 @@ returns c =
     let p = c.args.prefix.now in
     labels_are _ _ _ _ _ _ _ _ _ _ (ap (λ (s : Labels). s.family) c.self.view_is)
     (ap (λ (n : Walks). of_table c.self.inside.family n.routes) c.change.ensures.walks ∙ ap (λ (s : Labels). s.routes) c.self.view_is)
-    (entries_without c.self.inside.family p.family (bits_of p.len c.path_bits-q.result) (whole c.self.inside.family (cells_of c.self.inside.nodes)).entries (whole c.self.inside.family (cells_of c.change.new.nodes)).entries c.args.self.now.entries (c.requires ∙ sym (ap (λ (s : Labels). s.family) c.self.view_is)) (ap (λ (n : Walks). n.entries) c.change.ensures.walks) (ap (λ (s : Labels). s.entries) c.self.view_is)
-    ∙ ap (λ b. remove_entry (same_prefix (let x : Prefix = record { family = p.family; bits = b } in x)) c.args.self.now.entries) c.path_bits-q.ensures)
+    (entries_without c.self.inside.family p.family (bits_of p.len c.path_bits.result) (whole c.self.inside.family (cells_of c.self.inside.nodes)).entries (whole c.self.inside.family (cells_of c.change.new.nodes)).entries c.args.self.now.entries (c.requires ∙ sym (ap (λ (s : Labels). s.family) c.self.view_is)) (ap (λ (n : Walks). n.entries) c.change.ensures.walks) (ap (λ (s : Labels). s.entries) c.self.view_is)
+    ∙ ap (λ b. remove_entry (same_prefix (let x : Prefix = record { family = p.family; bits = b } in x)) c.args.self.now.entries) c.path_bits.ensures)
     (ap (λ (n : Walks). n.nodes) c.change.ensures.walks ∙ ap (λ (s : Labels). s.nodes) c.self.view_is)
     (ap (λ (n : Walks). of_table c.self.inside.family (routes_before c.self.inside.undo n.routes)) c.change.ensures.walks ∙ ap (λ (s : Labels). s.before) c.self.view_is)

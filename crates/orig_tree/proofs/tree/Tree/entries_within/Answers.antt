@@ -12,9 +12,9 @@ pub returns-clause-entries : goal.returns-clause-entries
 returns-clause-entries c =
     let t = c.self.inside in
     let p = c.args.prefix.now in
-    let q = bits_of p.len c.path_bits-q.result in
+    let q = bits_of p.len c.path_bits.result in
     let L = (whole t.family (cells_of t.nodes)).entries in
     let same = c.requires ∙ sym (ap (λ (s : Labels). s.family) c.self.view_is) in
-    told_within p t.family q L c.args.self.now.entries (map entry_as c.new-list.result.items) (map entry_as c.tell_within.new.out.items) same c.path_bits-q.ensures
+    told_within p t.family q L c.args.self.now.entries (map entry_as c.new-list.result.items) (map entry_as c.tell_within.new.out.items) same c.path_bits.ensures
     (ap (λ (s : Labels). s.entries) c.self.view_is) (ap (map entry_as) c.new-list.ensures.items)
-    (c.in_ok-tell_within.ensures.takes (suc (width t.family)) (levels_left p t.family same) (fits_prefix p t.family q L same c.path_bits-q.ensures (fits_in_place t.family L c.self.invariant.2.0)))
+    (c.in_ok-tell_within.ensures.takes (suc (width t.family)) (levels_left p t.family same) (fits_prefix p t.family q L same c.path_bits.ensures (fits_in_place t.family L c.self.invariant.2.0)))

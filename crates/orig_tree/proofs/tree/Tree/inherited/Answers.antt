@@ -13,6 +13,6 @@ pub returns : goal.returns
 returns c =
     let p = c.args.prefix.now in
     let same = c.requires ∙ sym (ap (λ (s : Labels). s.family) c.self.view_is) in
-    inherited_whole c.self.inside.family (bits_of p.len c.path_bits-q.result) (prefix_as p).bits (cells_of c.self.inside.nodes) c.args.self.now.entries c.inherited.result p.len (short p c.self.inside.family same)
-    (ap (λ (s : Labels). s.entries) c.self.view_is) c.path_bits-q.ensures c.inherited.ensures
+    inherited_whole c.self.inside.family (bits_of p.len c.path_bits.result) (prefix_as p).bits (cells_of c.self.inside.nodes) c.args.self.now.entries c.inherited.result p.len (short p c.self.inside.family same)
+    (ap (λ (s : Labels). s.entries) c.self.view_is) c.path_bits.ensures c.inherited.ensures
     ∙ ap (λ f. above (prefix_as p).bits (of_family f c.args.self.now.entries) 0) (ap (λ (s : Labels). s.family) c.self.view_is)

@@ -14,7 +14,7 @@ returns-in_err-hop-clause-route c =
     let p = c.args.prefix.now in
     let same = c.requires ∙ sym (ap (λ (s : Labels). s.family) c.self.view_is) in
     ap (option_map (λ (h : Hop). h.0)) c.from_residual.ensures
-    ∙ (sym c.in_err-hop.was ∙ own_of p t.family (bits_of p.len c.path_bits-q.result) (whole t.family (cells_of t.nodes)).routes c.args.self.now.routes c.route_at.result same c.path_bits-q.ensures
+    ∙ (sym c.in_err-hop.was ∙ own_of p t.family (bits_of p.len c.path_bits.result) (whole t.family (cells_of t.nodes)).routes c.args.self.now.routes c.route_at.result same c.path_bits.ensures
     (ap (λ (s : Labels). s.routes) c.self.view_is) (c.route_at.ensures (suc (width t.family)) (enough p t.family same)))
 
 pub returns-clause-route : goal.returns-clause-route
@@ -22,5 +22,5 @@ returns-clause-route c =
     let t = c.self.inside in
     let p = c.args.prefix.now in
     let same = c.requires ∙ sym (ap (λ (s : Labels). s.family) c.self.view_is) in
-    sym c.in_ok-hop.was ∙ own_of p t.family (bits_of p.len c.path_bits-q.result) (whole t.family (cells_of t.nodes)).routes c.args.self.now.routes c.route_at.result same c.path_bits-q.ensures
+    sym c.in_ok-hop.was ∙ own_of p t.family (bits_of p.len c.path_bits.result) (whole t.family (cells_of t.nodes)).routes c.args.self.now.routes c.route_at.result same c.path_bits.ensures
     (ap (λ (s : Labels). s.routes) c.self.view_is) (c.route_at.ensures (suc (width t.family)) (enough p t.family same))

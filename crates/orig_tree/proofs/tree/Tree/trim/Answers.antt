@@ -11,8 +11,8 @@ pub returns-clause-nodes : goal.returns-clause-nodes
 returns-clause-nodes c =
     let p = c.args.prefix.now in
     let t = c.self.inside in
-    trimmed_tree t.family c.args.self.now.family (bits_of p.len c.path_bits-q.result) _ (whole t.family (cells_of t.nodes)).routes (whole t.family (cells_of t.nodes)).entries (whole t.family (cells_of c.drop_unused.new.nodes)).routes (whole t.family (cells_of c.drop_unused.new.nodes)).entries c.args.self.now.routes c.args.self.now.entries
-    (whole t.family (cells_of t.nodes)).nodes c.args.self.now.nodes (whole t.family (cells_of c.drop_unused.new.nodes)).nodes (ap (λ (s : Labels). s.family) c.self.view_is) c.path_bits-q.ensures c.drop_unused.ensures.routes c.drop_unused.ensures.entries
+    trimmed_tree t.family c.args.self.now.family (bits_of p.len c.path_bits.result) _ (whole t.family (cells_of t.nodes)).routes (whole t.family (cells_of t.nodes)).entries (whole t.family (cells_of c.drop_unused.new.nodes)).routes (whole t.family (cells_of c.drop_unused.new.nodes)).entries c.args.self.now.routes c.args.self.now.entries
+    (whole t.family (cells_of t.nodes)).nodes c.args.self.now.nodes (whole t.family (cells_of c.drop_unused.new.nodes)).nodes (ap (λ (s : Labels). s.family) c.self.view_is) c.path_bits.ensures c.drop_unused.ensures.routes c.drop_unused.ensures.entries
     (ap (λ (s : Labels). s.routes) c.self.view_is) (ap (λ (s : Labels). s.entries) c.self.view_is) (ap (λ (s : Labels). s.nodes) c.self.view_is) c.drop_unused.ensures.trimmed
 
 pub invariant_of-self : goal.invariant_of-self

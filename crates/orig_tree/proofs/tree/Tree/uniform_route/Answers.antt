@@ -13,13 +13,13 @@ returns-in_err-hop-clause-differ c =
     let t = c.self.inside in
     let same = c.requires ∙ sym (ap (λ (s : Labels). s.family) c.self.view_is) in
     rw (c.from_residual.ensures)
-    (asked_none t.family p.family (bits_of p.len c.path_bits-q.result) _ (whole t.family (cells_of t.nodes)).routes c.args.self.now.routes c.uniform.result same c.path_bits-q.ensures (ap (λ (s : Labels). s.routes) c.self.view_is) c.in_err-hop.was c.self.invariant.1
-    (λ fits. uniform_whole t.family Route (bits_of p.len c.path_bits-q.result) (cells_of t.nodes) t.nodes.free p.len c.uniform.result (short p t.family same) c.self.invariant.0 fits c.uniform.ensures))
+    (asked_none t.family p.family (bits_of p.len c.path_bits.result) _ (whole t.family (cells_of t.nodes)).routes c.args.self.now.routes c.uniform.result same c.path_bits.ensures (ap (λ (s : Labels). s.routes) c.self.view_is) c.in_err-hop.was c.self.invariant.1
+    (λ fits. uniform_whole t.family Route (bits_of p.len c.path_bits.result) (cells_of t.nodes) t.nodes.free p.len c.uniform.result (short p t.family same) c.self.invariant.0 fits c.uniform.ensures))
 
 pub returns-clause-one : goal.returns-clause-one
 returns-clause-one c =
     let p = c.args.prefix.now in
     let t = c.self.inside in
     let same = c.requires ∙ sym (ap (λ (s : Labels). s.family) c.self.view_is) in
-    asked_one t.family p.family (bits_of p.len c.path_bits-q.result) _ (whole t.family (cells_of t.nodes)).routes c.args.self.now.routes c.uniform.result c.in_ok-hop.hop same c.path_bits-q.ensures (ap (λ (s : Labels). s.routes) c.self.view_is) c.in_ok-hop.was c.self.invariant.1
-    (λ fits. uniform_whole t.family Route (bits_of p.len c.path_bits-q.result) (cells_of t.nodes) t.nodes.free p.len c.uniform.result (short p t.family same) c.self.invariant.0 fits c.uniform.ensures)
+    asked_one t.family p.family (bits_of p.len c.path_bits.result) _ (whole t.family (cells_of t.nodes)).routes c.args.self.now.routes c.uniform.result c.in_ok-hop.hop same c.path_bits.ensures (ap (λ (s : Labels). s.routes) c.self.view_is) c.in_ok-hop.was c.self.invariant.1
+    (λ fits. uniform_whole t.family Route (bits_of p.len c.path_bits.result) (cells_of t.nodes) t.nodes.free p.len c.uniform.result (short p t.family same) c.self.invariant.0 fits c.uniform.ensures)
