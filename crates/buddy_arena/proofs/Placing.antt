@@ -1,14 +1,16 @@
 -- Places that are taken and written.
-use Rattle.std.proofs.Common.{◌≡◌, ℕ, zero, suc, ◌+◌, ◌-◌, ◌*◌, ◌%◌, ◌^◌, ◌<◌, ◌≤◌, List, [], ◌∷◌, Bool, true, false, length, get_or, refl, sym, ap, ◌∙◌, arith, subst, set}
+use Rattle.std.proofs.Common.{◌≡◌, ℕ, zero, suc, ◌+◌, ◌-◌, ◌*◌, ◌%◌, ◌^◌, ◌<◌, ◌≤◌, List, [], ◌∷◌, Bool, true, false, length, get_or, refl, sym, ap, ◌∙◌, arith, subst, set, inl, inr}
 use Rattle.std.specs.Prelude.{not}
 use Rattle.std.specs.Int.Count.{count_leading_zeros}
 use Rattle.std.proofs.lemmas.Nat.{leading_length, one_shl}
 use Rattle.std.proofs.Math.ListN.{length-set}
+use Rattle.std.proofs.Math.Pow.{pow-lt}
+use Rattle.std.proofs.lemmas.Bool.{cases_lt}
 use Rattle.buddy_arena.specs.Space.{Space, IsSized, IsOut, marked}
 use Rattle.buddy_arena.specs.Space as arena
 use Rattle.buddy_arena.proofs.Spans.{marked_len}
 use Rattle.buddy_arena.specs.Powers.{up}
-use Rattle.buddy_arena.specs.Places.{TakesPlaces, is_out}
+use Rattle.buddy_arena.specs.Places.{TakesPlaces, NoneHolds, is_out}
 use Rattle.buddy_arena.proofs.Powers.{up_by}
 
 pub order_small : (x : ℕ) → 32 - count_leading_zeros 32 x < 256
@@ -101,3 +103,11 @@ put_sized s t i v z o f c = record {
   places = ap length f ∙ (z.places ∙ ap (λ (n : ℕ). 2 ^ n) (sym o));
   cells = ap length c ∙ (length-set s.cells i v ∙ (z.cells ∙ ap (λ (n : ℕ). 2 ^ n) (sym o)));
 }
+
+-- an order that is too large for each free block, told in places
+pub none_holds : {T : Type 0} (s : Space T) (o n : ℕ) → 2 ^ o ≡ n → arena.NoneFrom o (arena.blocks s.order s.free) → NoneHolds s n
+none_holds s o n e h k l =
+    elim (cases_lt k o) [
+      | inl a ↦ let p : 2 ^ k < 2 ^ o = pow-lt a in absurd (omega (arith, e, l, p))
+      | inr a ↦ h k a
+    ]

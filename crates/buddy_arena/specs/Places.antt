@@ -1,6 +1,6 @@
 -- Places of an arena that are out.
-use Rattle.std.specs.Prelude.{◌≡◌, ℕ, ◌+◌, ◌<◌, ◌≤◌, List, Bool, true, false, not, ◌&&◌, length, slice_index_or}
-use Rattle.buddy_arena.specs.Space.{Space, blocks, OneEach}
+use Rattle.std.specs.Prelude.{◌≡◌, ℕ, ◌+◌, ◌^◌, ◌<◌, ◌≤◌, List, Bool, true, false, not, ◌&&◌, length, slice_index_or}
+use Rattle.buddy_arena.specs.Space.{Space, blocks, has_order, OneEach}
 use Rattle.buddy_arena.specs.Space as arena
 
 -- whether a place is out
@@ -14,6 +14,10 @@ count_free s = arena.free_count s.free
 -- no order has two free blocks, as it is where nothing was given back: then a block is refused only where too few places are free
 abbrev pub IsFresh : {T : Type 0} → Space T → Type 0
 IsFresh s = OneEach (blocks s.order s.free)
+
+-- no free block has so many places
+abbrev pub NoneHolds : {T : Type 0} → Space T → ℕ → Type 0
+NoneHolds s n = (k : ℕ) → n ≤ 2 ^ k → has_order k (blocks s.order s.free) ≡ false
 
 -- the places that are out now and were not
 abbrev pub since : (ℕ → Bool) → (ℕ → Bool) → ℕ → Bool

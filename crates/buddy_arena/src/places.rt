@@ -3,7 +3,7 @@
 ghost use Rattle.std.specs.Prelude.{◌≡◌, ℕ, ◌+◌, ◌*◌, ◌^◌, ◌<◌, ◌≤◌, true, IfSome, IfNone, length, slice_set};
 ghost use Rattle.buddy_arena.specs.Space.{IsSized};
 ghost use Rattle.buddy_arena.specs.Powers.{up};
-ghost use Rattle.buddy_arena.specs.Places.{TakesPlaces, is_out, count_free, IsFresh};
+ghost use Rattle.buddy_arena.specs.Places.{TakesPlaces, NoneHolds, is_out, count_free, IsFresh};
 
 use crate::{Arena, Block};
 
@@ -37,6 +37,7 @@ pub fn take_places<T: Copy>(arena: &mut Arena<T>, count: u32) -> Option<u32>
     ensures still { (i : ℕ) → is_out arena.old.free i ≡ true → is_out arena.new.free i ≡ true }
     ensures left { IfSome result (λ base. count_free arena.new + up count ≡ count_free arena.old) }
     ensures refused { IfNone result (IsFresh arena.old → count_free arena.old < up count) }
+    ensures full { IfNone result (NoneHolds arena.old (up count)) }
     ensures fresh { IsFresh arena.old → IsFresh arena.new }
     ensures sized { IsSized arena.new }
     ensures cells { arena.new.cells ≡ arena.old.cells }

@@ -1,7 +1,7 @@
 use Rattle.std.proofs.Common.{◌≡◌, ◌∙◌, ◌*◌, ap, arith}
 use Rattle.buddy_arena.specs.Powers.{up}
 use Rattle.buddy_arena.specs.Places.{is_out, count_free}
-use Rattle.buddy_arena.proofs.Placing.{taken, still, none_taken, none_left}
+use Rattle.buddy_arena.proofs.Placing.{taken, still, none_taken, none_left, none_holds}
 use Rattle.buddy_arena.proofs.places.take_places.Goals as goal
 
 pub returns-then-count-eq0-clause-takes : goal.returns-then-count-eq0-clause-takes
@@ -21,3 +21,6 @@ returns-then-count-eq0-clause-aligned g c = (0, let e : 0 ≡ 0 * up c.args.coun
 
 pub returns-in-Ok-clause-aligned : goal.returns-in-Ok-clause-aligned
 returns-in-Ok-clause-aligned g c = (c.in-Ok.ensures.out.aligned.0, c.in-Ok.ensures.out.aligned.1 ∙ ap (λ n. c.in-Ok.ensures.out.aligned.0 * n) c.order_for.ensures.size)
+
+pub returns-in-Err-clause-full : goal.returns-in-Err-clause-full
+returns-in-Err-clause-full g c = none_holds c.args.arena.now c.order_for.result (up c.args.count) c.order_for.ensures.size c.in-Err.ensures.full.1
