@@ -1,12 +1,12 @@
 -- The places of a fresh arena: what a take does to them.
-use Rattle.std.proofs.Common.{◌≡◌, ◌≢◌, ℕ, zero, suc, ◌+◌, ◌-◌, ◌^◌, ◌<◌, ◌≤◌, List, [], ◌∷◌, length, Bool, true, false, Option, Some, None, nat_eq, ◌&&◌, ◌||◌, refl, sym, ap, ◌∙◌, subst, arith, replicate, inl, inr, eq-eqb, set}
+use Rattle.std.proofs.Common.{◌≡◌, ◌≢◌, ℕ, zero, suc, ◌+◌, ◌^◌, ◌<◌, ◌≤◌, List, [], ◌∷◌, length, Bool, true, false, Option, Some, None, nat_eq, ◌&&◌, ◌||◌, refl, sym, ap, ◌∙◌, subst, arith, replicate, inl, inr, eq-eqb, set}
 use Rattle.std.specs.Prelude.{nat_le, nat_lt, ◌⊎◌}
 use Rattle.std.proofs.Math.ListN.{length-set}
 use Rattle.std.proofs.lemmas.Bool.{cases_lt, cases_eq, ne_eqb}
 use Rattle.std.proofs.lemmas.Bool.Decides.{nat_tests}
 use Rattle.std.proofs.Math.Pow.{pow_mono}
 use Rattle.std.proofs.lemmas.List.{length-replicate, get_or-set_same, get_or-set_other}
-use Rattle.buddy_arena.specs.Space.{Free, blocks, has_order, has_block, first_block, marked, tick, num, Splits, Apart, IsOut, IsGreatest, NoneFrom, IsLeastFrom, OneEach, TakesBlock, free_count}
+use Rattle.buddy_arena.specs.Space.{blocks, has_order, has_block, first_block, marked, tick, num, Splits, Apart, IsOut, IsGreatest, IsLeastFrom, OneEach, TakesBlock, free_count}
 use Rattle.buddy_arena.specs.Fresh.{place_of, with_block, with_blocks, fresh_free, how_many, free_in, AreKept, AreFree, IsMapOf, SplitsAt, IsFoundFrom, IsLastBelow}
 use Rattle.buddy_arena.proofs.Firsts.{IsCarved, carved, order_fits}
 use Rattle.buddy_arena.specs.Masks.{ord, mask, free_of, IsMaskTree}

@@ -10,7 +10,7 @@ use Rattle.buddy_arena.proofs.Bits.{double}
 use Rattle.buddy_arena.proofs.Spans.{all_replicate, blocks_whole, blocks_halves, has_append, has_shift, first_left, first_right, first_shift, marked_len, marked_left, marked_right, marked_not_all}
 use Rattle.buddy_arena.proofs.Buddies as free
 use Rattle.buddy_arena.proofs.Counts.{order_whole_is}
-use Rattle.buddy_arena.proofs.Firsts.{IsCarved, carved, all_from, either, or_right}
+use Rattle.buddy_arena.proofs.Firsts.{carved, all_from, either, or_right}
 
 has_left : (o p : ℕ) (us vs : List Free) → has_block o p us ≡ true → has_block o p (us ++ vs) ≡ true
 has_left o p [] vs h = cc

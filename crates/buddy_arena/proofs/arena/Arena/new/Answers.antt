@@ -1,4 +1,4 @@
-use Rattle.std.proofs.Common.{◌≡◌, ◌^◌, List, Bool, true, replicate, length, ap, sym, subst, ◌∙◌, arith}
+use Rattle.std.proofs.Common.{◌^◌, true, replicate, length, ap, sym, ◌∙◌, arith}
 use Rattle.buddy_arena.specs.Space.{free_count}
 use Rattle.buddy_arena.proofs.Others.{one_whole}
 use Rattle.buddy_arena.proofs.Totals.{total_whole}

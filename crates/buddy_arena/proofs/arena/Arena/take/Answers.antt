@@ -1,5 +1,4 @@
-use Rattle.std.proofs.Common.{◌^◌, ℕ, false, length, ap, sym, subst, ◌∙◌, arith}
-use Rattle.buddy_arena.specs.Space.{IsOut}
+use Rattle.std.proofs.Common.{◌^◌, false, length, ap, sym, ◌∙◌, arith}
 use Rattle.buddy_arena.proofs.Calls.{len_padded}
 use Rattle.buddy_arena.proofs.Kept.{take_says}
 use Rattle.buddy_arena.proofs.Spans.{marked_len}
