@@ -5,7 +5,7 @@ use Rattle.table_model.specs.declared.family.Family.{Family}
 use Rattle.table_model.specs.Table.{Table, lpm}
 use Rattle.table_model.specs.Entries.{of_table}
 use Rattle.orig_tree.specs.Edits.{edit}
-use Rattle.orig_tree.specs.Views.{path_of, InPlace}
+use Rattle.orig_tree.specs.Views.{path_steps, InPlace}
 use Rattle.orig_tree.specs.Walk.{CanEdit}
 use Rattle.orig_tree.specs.Arena.{whole}
 use Rattle.orig_tree.specs.Bests.{AreBest, back}
@@ -15,7 +15,7 @@ use Rattle.orig_tree.specs.declared.undo.Undo.{Undo}
 
 -- the routes with what the path had before
 abbrev pub undone : Undo → Table → Table
-undone u R = edit (path_of u.path) u.hop R
+undone u R = edit (path_steps u.path) u.hop R
 
 -- the routes before the last change, if it can be taken back
 abbrev pub routes_before : Option Undo → Table → Table
@@ -27,7 +27,7 @@ pub record UndoesChange (f : Family) (R : Table) (cells : List Node) (kept : ℕ
   pub routes : undone u (whole f cells).routes ≡ R
   pub best : AreBest (suc (width f)) cells (back u.changes.items kept) (λ a. lpm R a 0) 0
   pub few : u.path.left ≤ width f
-  pub allowed : CanEdit (path_of u.path) u.hop (whole f cells).nodes
+  pub allowed : CanEdit (path_steps u.path) u.hop (whole f cells).nodes
 
 -- the last change, if it can be taken back
 abbrev pub CanUndo : Family → List Node → (ℕ → Best) → Option Undo → Type 0

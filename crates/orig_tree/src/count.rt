@@ -1,7 +1,7 @@
 //! How many nodes there are within a prefix.
 
 ghost use Rattle.std.specs.Prelude.{◌≡◌, ◌≤◌, ◌^◌, ◌-◌, ℕ, suc, List, Bool, length, min};
-ghost use Rattle.orig_tree.specs.Views.{path_of};
+ghost use Rattle.orig_tree.specs.Views.{path_steps};
 ghost use Rattle.orig_tree.specs.Arena.{cells_of, walks_at, from_half};
 ghost use Rattle.orig_tree.specs.Within.{nodes_in, told};
 
@@ -35,11 +35,11 @@ fn count_half(nodes: &Nodes, half: Option<usize>, depth: u8) -> u64
     }
 }
 
-/// The nodes within a path of `left` bits from a node on.
+/// The nodes within a path from a node on.
 pub(crate) fn count_within(nodes: &Nodes, i: usize, path: Path, depth: u8) -> u64
     requires few { path.left ≤ depth }
     requires most { depth ≤ 128 }
-    ensures { result ≡ told (nodes_in (path_of path) (walks_at (suc depth) (cells_of nodes.now)
+    ensures { result ≡ told (nodes_in (path_steps path) (walks_at (suc depth) (cells_of nodes.now)
         i).nodes) }
 {
     if path.left == 0 {

@@ -2,7 +2,7 @@
 
 ghost use Rattle.std.specs.Prelude.{◌≡◌, ◌≤◌, ◌+◌, ◌||◌, ℕ, List, Bool, [], vec_len, slice_set, cond};
 ghost use Rattle.std.specs.Option.{is_some};
-ghost use Rattle.orig_tree.specs.Views.{path_of};
+ghost use Rattle.orig_tree.specs.Views.{path_steps};
 ghost use Rattle.orig_tree.specs.Arena.{cells_of, Owner, link, IsTree, HasSpares, IfHalf};
 ghost use Rattle.orig_tree.specs.Bests.{bests_of};
 ghost use Rattle.orig_tree.specs.Drops.{with_halves, spare_node, NodeTrimmed, HalfTrimmed};
@@ -126,7 +126,7 @@ pub(crate) fn trim(nodes: &mut Nodes, i: usize, path: Path, depth: u8) -> bool
     requires { path.left ≤ 128 }
     ensures trimmed { (d : ℕ) (name : ℕ → Owner) (spares : ℕ) (p : List Bool) → d ≤ depth + 1
         → IsTree d (cells_of nodes.old) name i p → HasSpares (cells_of nodes.old) nodes.old.free name
-        spares → NodeTrimmed d (path_of path) (cells_of nodes.old) (cells_of nodes.new)
+        spares → NodeTrimmed d (path_steps path) (cells_of nodes.old) (cells_of nodes.new)
         nodes.new.free name i p result }
     ensures kept { bests_of nodes.new ≡ bests_of nodes.old }
     ensures len { vec_len nodes.new.halves ≡ vec_len nodes.old.halves }
@@ -154,7 +154,7 @@ fn trim_half(nodes: &mut Nodes, half: u32, path: Path, depth: u8) -> bool
     ensures trimmed { (d : ℕ) (name : ℕ → Owner) (spares : ℕ) (p : List Bool) → d ≤ depth
         → IfHalf (λ j. IsTree d (cells_of nodes.old) name j p) (link half)
         → HasSpares (cells_of nodes.old) nodes.old.free name spares
-        → HalfTrimmed d (path_of path) (cells_of nodes.old) (cells_of nodes.new) nodes.new.free
+        → HalfTrimmed d (path_steps path) (cells_of nodes.old) (cells_of nodes.new) nodes.new.free
         name (link half) p result }
     ensures kept { bests_of nodes.new ≡ bests_of nodes.old }
     ensures len { vec_len nodes.new.halves ≡ vec_len nodes.old.halves }

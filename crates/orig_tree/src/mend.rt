@@ -11,7 +11,7 @@ ghost use Rattle.table_model.specs.Table.{lpm};
 ghost use Rattle.table_model.specs.Sets.{side};
 ghost use Rattle.orig_tree.specs.Edits.{edit};
 ghost use Rattle.orig_tree.specs.Packed.{cover_in};
-ghost use Rattle.orig_tree.specs.Views.{path_of};
+ghost use Rattle.orig_tree.specs.Views.{path_steps};
 ghost use Rattle.orig_tree.specs.Arena.{cells_of, Owner, IfHalf, IsTree, walks_at, from_half};
 ghost use Rattle.orig_tree.specs.Within.{nodes_in};
 ghost use Rattle.orig_tree.specs.Steps.{new_nodes, new_behind};
@@ -142,11 +142,11 @@ pub(crate) fn plan<C: Counter>(
         → AreBest (suc depth) (cells_of nodes.now) (best_in nodes.now) (λ a. lpm (walks_at (suc depth)
         (cells_of nodes.now) i).routes a inherited) i
         → Untouched p name (best_in nodes.now) (changed out.old.changes.items (best_in nodes.now))
-        → IsMended depth (cells_of nodes.now) name i p (λ a. lpm (edit (path_of route.path) route.hop (walks_at
+        → IsMended depth (cells_of nodes.now) name i p (λ a. lpm (edit (path_steps route.path) route.hop (walks_at
         (suc depth) (cells_of nodes.now) i).routes) a inherited) (changed out.old.changes.items (best_in
         nodes.now)) (changed out.new.changes.items (best_in nodes.now)) (kept_or x (best_in nodes.now i))) }
-    ensures steps { C.count steps.new + new_nodes (cells_of nodes.now) (path_of route.path) i
-        ≤ C.count steps.old + route.path.left + 1 + nodes_in (path_of route.path) (walks_at (suc depth) (cells_of
+    ensures steps { C.count steps.new + new_nodes (cells_of nodes.now) (path_steps route.path) i
+        ≤ C.count steps.old + route.path.left + 1 + nodes_in (path_steps route.path) (walks_at (suc depth) (cells_of
         nodes.now) i).nodes }
 {
     if route.path.left == 0 {
@@ -196,12 +196,12 @@ fn plan_half<C: Counter>(
         → IfHalf (λ j. AreBest (suc depth) (cells_of nodes.now) (best_in nodes.now) (λ a. lpm (walks_at
         (suc depth) (cells_of nodes.now) j).routes a inherited) j) half
         → Untouched p name (best_in nodes.now) (changed out.old.changes.items (best_in nodes.now))
-        → HalfMended depth (cells_of nodes.now) name half p (λ a. lpm (edit (path_of route.path) route.hop
+        → HalfMended depth (cells_of nodes.now) name half p (λ a. lpm (edit (path_steps route.path) route.hop
         (from_half (walks_at (suc depth) (cells_of nodes.now)) half).routes) a inherited) (changed
         out.old.changes.items (best_in nodes.now)) (changed out.new.changes.items (best_in nodes.now)) (kept_or x
         (best_behind (best_in nodes.now) half (best_one inherited)))) }
-    ensures steps { C.count steps.new + new_behind (cells_of nodes.now) (path_of route.path) half
-        ≤ C.count steps.old + route.path.left + 1 + nodes_in (path_of route.path) (from_half (walks_at (suc depth)
+    ensures steps { C.count steps.new + new_behind (cells_of nodes.now) (path_steps route.path) half
+        ≤ C.count steps.old + route.path.left + 1 + nodes_in (path_steps route.path) (from_half (walks_at (suc depth)
         (cells_of nodes.now)) half).nodes }
 {
     match half {

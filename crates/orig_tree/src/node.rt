@@ -10,7 +10,7 @@ ghost use Rattle.table_model.specs.Regions.{above, lift};
 ghost use Rattle.fib_addr.specs.Views.{prefix_as};
 ghost use Rattle.orig_tree.specs.Walk.{rows_of, edited, CanEdit, labelled, has_node};
 ghost use Rattle.table_model.specs.Entries.{of_table};
-ghost use Rattle.orig_tree.specs.Views.{path_of, FitsWidth};
+ghost use Rattle.orig_tree.specs.Views.{path_steps, FitsWidth};
 ghost use Rattle.orig_tree.specs.Uniform.{IsUniform};
 ghost use Rattle.orig_tree.specs.Arena.{cells_of, Owner, blank_cell, cell_at, half_place, walks_at, IsTree, IsSet, retold, cover_at, cover_of, from_half, HasSpares, link, GivesPlace, IsSplit, MakesRoom, HalvesStay, with_half};
 ghost use Rattle.orig_tree.specs.Bests.{best_in, bests_of, best_one, blank_place, put_at, AreBest, IsGrown, laid};
@@ -208,11 +208,11 @@ pub(crate) fn best_at<'a>(nodes: &'a Nodes, i: usize, none: &'a Best) -> &'a Bes
     }
 }
 
-/// Longest match below a node, for an address of which `left` bits are left.
+/// Longest match below a node, for an address of which the path is left.
 pub(crate) fn answer(nodes: &Nodes, i: usize, label: Label, path: Path, inherited: u16) -> u16
     requires { path.left ≤ 128 }
     ensures { (d : ℕ) → path.left < d → result ≡ lpm (rows_of label (walks_at d (cells_of nodes.now) i))
-        (path_of path) inherited }
+        (path_steps path) inherited }
 {
     let node = read(nodes, i);
     let hop = node.hop(label).unwrap_or(inherited);
@@ -230,7 +230,7 @@ pub(crate) fn answer(nodes: &Nodes, i: usize, label: Label, path: Path, inherite
 /// What a path inherits from the entries: the hop of the longest one that it is strictly within.
 pub(crate) fn inherited(nodes: &Nodes, i: usize, path: Path, hop: u16) -> u16
     requires { path.left ≤ 128 }
-    ensures { (d : ℕ) → path.left < d → result ≡ above (path_of path) (walks_at d (cells_of nodes.now)
+    ensures { (d : ℕ) → path.left < d → result ≡ above (path_steps path) (walks_at d (cells_of nodes.now)
         i).entries hop }
 {
     if path.left == 0 {
@@ -325,11 +325,11 @@ pub(crate) fn assign(
     ensures halves { HalvesStay (cells_of nodes.old) (cells_of nodes.new) }
     ensures free { nodes.new.free ≡ nodes.old.free }
     ensures set { (d : ℕ) (name : ℕ → Owner) (p : List Bool) → path.left < d
-        → IsTree d (cells_of nodes.old) name i p → CanEdit (path_of path) hop (walks_at d
-        (cells_of nodes.old) i).nodes → IsSet d label (path_of path) hop (cells_of nodes.old)
+        → IsTree d (cells_of nodes.old) name i p → CanEdit (path_steps path) hop (walks_at d
+        (cells_of nodes.old) i).nodes → IsSet d label (path_steps path) hop (cells_of nodes.old)
         (cells_of nodes.new) name i p }
     ensures same { (d : ℕ) (name : ℕ → Owner) (p : List Bool) → path.left < d
-        → IsTree d (cells_of nodes.old) name i p → CanEdit (path_of path) hop (walks_at d
+        → IsTree d (cells_of nodes.old) name i p → CanEdit (path_steps path) hop (walks_at d
         (cells_of nodes.old) i).nodes → result ≡ false → cover_of label (cell_at (cells_of nodes.new)
         i) ≡ cover_of label (cell_at (cells_of nodes.old) i) }
 {
@@ -364,7 +364,7 @@ pub(crate) fn uniform(
     ensures { (d : ℕ) (name : ℕ → Owner) (p : List Bool) (n : ℕ) → path.left < d
         → IsTree d (cells_of nodes.now) name i p → path.left ≤ n → FitsWidth n (rows_of label (walks_at d
         (cells_of nodes.now) i)) → IsUniform n (rows_of label (walks_at d (cells_of nodes.now) i))
-        inherited (path_of path) result }
+        inherited (path_steps path) result }
 {
     let node = read(nodes, i);
     if path.left == 0 {
@@ -433,7 +433,7 @@ fn tell_half<S: EntrySink>(
 /// Whether a path has a node.
 pub(crate) fn is_node(nodes: &Nodes, i: usize, path: Path) -> bool
     requires { path.left ≤ 128 }
-    ensures { (d : ℕ) → path.left < d → result ≡ has_node (path_of path) (walks_at d (cells_of
+    ensures { (d : ℕ) → path.left < d → result ≡ has_node (path_steps path) (walks_at d (cells_of
         nodes.now) i).nodes }
 {
     if path.left == 0 {
@@ -508,7 +508,7 @@ pub(crate) fn grow(nodes: &mut Nodes, i: usize, path: Path, inherited: u16)
     requires few { vec_len nodes.old.halves + path.left < 2 ^ 32 }
     ensures nodes { (d : ℕ) (name : ℕ → Owner) (n : ℕ) (p : List Bool) → path.left < d
         → IsTree d (cells_of nodes.old) name i p → HasSpares (cells_of nodes.old) nodes.old.free name n
-        → MakesRoom d (path_of path) (cells_of nodes.old) (cells_of nodes.new) nodes.new.free name i
+        → MakesRoom d (path_steps path) (cells_of nodes.old) (cells_of nodes.new) nodes.new.free name i
         p }
     ensures best { (d : ℕ) (name : ℕ → Owner) (n : ℕ) (p : List Bool) → path.left < d
         → IsTree d (cells_of nodes.old) name i p → HasSpares (cells_of nodes.old) nodes.old.free name n
@@ -564,11 +564,11 @@ pub(crate) fn grow_label<C: Counter>(
     requires few { vec_len nodes.old.halves + path.left < 2 ^ 32 }
     ensures made { (d : ℕ) (name : ℕ → Owner) (n : ℕ) (p : List Bool) → path.left < d
         → IsTree d (cells_of nodes.old) name i p → HasSpares (cells_of nodes.old) nodes.old.free name n
-        → IsPlaced d label (path_of path) hop (cells_of nodes.old) (cells_of nodes.new)
-        nodes.new.free name i p (λ a. lpm (laid (route_set label hop) (path_of path) (walks_at d
+        → IsPlaced d label (path_steps path) hop (cells_of nodes.old) (cells_of nodes.new)
+        nodes.new.free name i p (λ a. lpm (laid (route_set label hop) (path_steps path) (walks_at d
         (cells_of nodes.old) i).routes) a inherited) (best_in nodes.old) (best_in nodes.new) result }
     ensures steps { C.count steps.new ≤ C.count steps.old + new_nodes (cells_of nodes.old)
-        (path_of path) i }
+        (path_steps path) i }
 {
     let node = read(nodes, i);
     if path.left == 0 {
@@ -609,12 +609,12 @@ pub(crate) fn set_label(
     requires bits { path.left ≤ 128 }
     ensures made { IfOk result (λ more. (d : ℕ) (name : ℕ → Owner) (n : ℕ) (p : List Bool) → path.left < d
         → IsTree d (cells_of nodes.old) name i p → HasSpares (cells_of nodes.old) nodes.old.free name n
-        → IsPlaced d label (path_of path) hop (cells_of nodes.old) (cells_of nodes.new)
-        nodes.new.free name i p (λ a. lpm (laid (route_set label hop) (path_of path) (walks_at d
+        → IsPlaced d label (path_steps path) hop (cells_of nodes.old) (cells_of nodes.new)
+        nodes.new.free name i p (λ a. lpm (laid (route_set label hop) (path_steps path) (walks_at d
         (cells_of nodes.old) i).routes) a inherited) (best_in nodes.old) (best_in nodes.new) more) }
     ensures err { OnErr result ((cells_of nodes.new ≡ cells_of nodes.old)
         × (nodes.new.free ≡ nodes.old.free) × ((j : ℕ) → best_in nodes.new j ≡ best_in nodes.old j)) }
-    ensures held { (d : ℕ) → path.left < d → has_node (path_of path) (walks_at d (cells_of nodes.old)
+    ensures held { (d : ℕ) → path.left < d → has_node (path_steps path) (walks_at d (cells_of nodes.old)
         i).nodes ≡ true → IsOk result }
 {
     let node = read(nodes, i);

@@ -7,7 +7,7 @@ ghost use Rattle.table_model.specs.Entries.{of_table};
 ghost use Rattle.table_model.specs.Regions.{entry_at, lift};
 ghost use Rattle.fib_addr.specs.Views.{prefix_as};
 ghost use Rattle.orig_tree.specs.Arena.{cells_of, walks_at};
-ghost use Rattle.orig_tree.specs.Views.{path_of, FitsWidth};
+ghost use Rattle.orig_tree.specs.Views.{path_steps, FitsWidth};
 ghost use Rattle.orig_tree.specs.Walk.{has_node};
 
 use crate::node::{Label, Nodes, read, tell};
@@ -26,7 +26,7 @@ pub(crate) struct OwnRoute {
 pub(crate) fn route_at(nodes: &Nodes, i: usize, path: Path) -> Option<u16>
     requires { path.left ≤ 128 }
     ensures { (d : ℕ) → path.left < d → result
-        ≡ entry_at (path_of path) (walks_at d (cells_of nodes.now) i).routes }
+        ≡ entry_at (path_steps path) (walks_at d (cells_of nodes.now) i).routes }
 {
     let node = read(nodes, i);
     if path.left == 0 {
@@ -43,10 +43,10 @@ pub(crate) fn route_at(nodes: &Nodes, i: usize, path: Path) -> Option<u16>
 /// What there is at a path, in one walk.
 pub(crate) fn seek(nodes: &Nodes, i: usize, path: Path) -> OwnRoute
     requires { path.left ≤ 128 }
-    ensures node { (d : ℕ) → path.left < d → result.is_node ≡ has_node (path_of path) (walks_at d (cells_of
+    ensures node { (d : ℕ) → path.left < d → result.is_node ≡ has_node (path_steps path) (walks_at d (cells_of
         nodes.now) i).nodes }
     ensures route { (d : ℕ) → path.left < d → result.hop
-        ≡ entry_at (path_of path) (walks_at d (cells_of nodes.now) i).routes }
+        ≡ entry_at (path_steps path) (walks_at d (cells_of nodes.now) i).routes }
 {
     let node = read(nodes, i);
     if path.left == 0 {
@@ -78,9 +78,9 @@ pub(crate) fn tell_within<S: EntrySink>(
     requires ready { S.ready out.old }
     ensures ready { OnOk result (S.ready out.new) }
     ensures takes { (d : ℕ) → path.left + (width prefix.now.family - prefix.now.len) < d
-        → FitsWidth (width prefix.now.family - prefix.now.len) (cut (path_of path) (walks_at d (cells_of
+        → FitsWidth (width prefix.now.family - prefix.now.len) (cut (path_steps path) (walks_at d (cells_of
         nodes.now) i).entries) → OnOk result (S.takes out.old (of_table prefix.now.family
-        (lift (prefix_as prefix.now).bits (cut (path_of path) (walks_at d (cells_of nodes.now)
+        (lift (prefix_as prefix.now).bits (cut (path_steps path) (walks_at d (cells_of nodes.now)
         i).entries))) out.new) }
 {
     if path.left == 0 {

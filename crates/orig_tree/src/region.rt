@@ -5,7 +5,7 @@ ghost use Rattle.table_model.specs.Table.{root, half, cut, inherit, lpm};
 ghost use Rattle.table_model.specs.Sets.{set_of, k_of, is_in, smallest};
 ghost use Rattle.fib_addr.specs.HopSets.{SameHops};
 ghost use Rattle.orig_tree.specs.Spots.{spot_answers, spot_rows, EachFixed};
-ghost use Rattle.orig_tree.specs.Views.{path_of, FitsWidth};
+ghost use Rattle.orig_tree.specs.Views.{path_steps, FitsWidth};
 ghost use Rattle.orig_tree.specs.Cover.{SomeGets};
 ghost use Rattle.orig_tree.specs.Within.{nodes_in};
 
@@ -181,9 +181,9 @@ pub(crate) fn below<'a, C: Counter>(
     requires most { path.left ≤ 128 }
     ensures bits { result.bits + path.left ≡ region.entry.bits }
     ensures answers { (a : List Bool) → spot_answers result a
-        ≡ spot_answers region.entry (path_of path ++ a) }
-    ensures entries { result.entries ≡ cut (path_of path) region.entry.entries }
-    ensures nodes { length result.nodes ≡ nodes_in (path_of path) region.entry.nodes }
+        ≡ spot_answers region.entry (path_steps path ++ a) }
+    ensures entries { result.entries ≡ cut (path_steps path) region.entry.entries }
+    ensures nodes { length result.nodes ≡ nodes_in (path_steps path) region.entry.nodes }
     ensures steps { C.count steps.new ≤ C.count steps.old + path.left }
 {
     let mut left = path.left;

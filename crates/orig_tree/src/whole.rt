@@ -5,7 +5,7 @@ ghost use Rattle.table_model.specs.Width.{width};
 ghost use Rattle.table_model.specs.Regions.{entry_at};
 ghost use Rattle.orig_tree.specs.Walk.{walks_of, no_walks, edited, CanEdit, has_node};
 ghost use Rattle.orig_tree.specs.Trims.{IsTrimmed};
-ghost use Rattle.orig_tree.specs.Views.{path_of};
+ghost use Rattle.orig_tree.specs.Views.{path_steps};
 ghost use Rattle.orig_tree.specs.Arena.{blank_cell, cells_of, whole, IsArena, IsRoomier, HalvesStay};
 ghost use Rattle.orig_tree.specs.Bests.{best_in, best_one, bests_of, KeepsBest, IsLaid};
 ghost use Rattle.orig_tree.specs.Undos.{UndoesChange, CanUndo};
@@ -55,13 +55,13 @@ pub(crate) fn make_room(
     ensures arena { IsArena family (cells_of nodes.new) nodes.new.free }
     ensures best { KeepsBest family (cells_of nodes.new) (best_in nodes.new) }
     ensures undo { CanUndo family (cells_of nodes.new) (best_in nodes.new) undo.new }
-    ensures walks { IsRoomier (path_of path) (whole family (cells_of nodes.old)) (whole family
+    ensures walks { IsRoomier (path_steps path) (whole family (cells_of nodes.old)) (whole family
         (cells_of nodes.new)) }
-    ensures ok { OnOk result (has_node (path_of path) (whole family (cells_of nodes.new)).nodes
+    ensures ok { OnOk result (has_node (path_steps path) (whole family (cells_of nodes.new)).nodes
         ≡ true) }
     ensures err { OnErr result ((whole family (cells_of nodes.new)
         ≡ whole family (cells_of nodes.old)) × (undo.new ≡ undo.old)) }
-    ensures held { has_node (path_of path) (whole family (cells_of nodes.old)).nodes ≡ true
+    ensures held { has_node (path_steps path) (whole family (cells_of nodes.old)).nodes ≡ true
         → IsOk result × (whole family (cells_of nodes.new) ≡ whole family (cells_of nodes.old))
         × (undo.new ≡ undo.old) }
 {
@@ -95,11 +95,11 @@ pub(crate) fn insert_route<C: Counter>(
     requires best { KeepsBest family (cells_of nodes.old) (best_in nodes.old) }
     ensures arena { IsArena family (cells_of nodes.new) nodes.new.free }
     ensures best { KeepsBest family (cells_of nodes.new) (best_in nodes.new) }
-    ensures laid { OnOk result (IsLaid Route (path_of path) hop (whole family (cells_of nodes.old)) (whole
+    ensures laid { OnOk result (IsLaid Route (path_steps path) hop (whole family (cells_of nodes.old)) (whole
         family (cells_of nodes.new))) }
     ensures err { OnErr result ((cells_of nodes.new ≡ cells_of nodes.old)
         × ((j : ℕ) → best_in nodes.new j ≡ best_in nodes.old j)) }
-    ensures steps { C.count steps.new ≤ C.count steps.old + path.left + 1 + nodes_in (path_of path) (whole
+    ensures steps { C.count steps.new ≤ C.count steps.old + path.left + 1 + nodes_in (path_steps path) (whole
         family (cells_of nodes.old)).nodes }
 {
     reserve(nodes, path.left as usize)?;
@@ -133,13 +133,13 @@ pub(crate) fn update_route<C: Counter>(
     requires few { path.left ≤ width family }
     requires arena { IsArena family (cells_of nodes.old) nodes.old.free }
     requires best { KeepsBest family (cells_of nodes.old) (best_in nodes.old) }
-    requires allowed { CanEdit (path_of path) set (whole family (cells_of nodes.old)).nodes }
+    requires allowed { CanEdit (path_steps path) set (whole family (cells_of nodes.old)).nodes }
     ensures arena { IsArena family (cells_of nodes.new) nodes.new.free }
     ensures best { KeepsBest family (cells_of nodes.new) (best_in nodes.new) }
-    ensures walks { OnOk result (whole family (cells_of nodes.new) ≡ edited Route (path_of path) set
+    ensures walks { OnOk result (whole family (cells_of nodes.new) ≡ edited Route (path_steps path) set
         (whole family (cells_of nodes.old))) }
-    ensures back { IfOk result (λ v. (hop : Option ℕ) → hop ≡ entry_at (path_of path) (whole family
-        (cells_of nodes.old)).routes → has_node (path_of path) (whole family (cells_of
+    ensures back { IfOk result (λ v. (hop : Option ℕ) → hop ≡ entry_at (path_steps path) (whole family
+        (cells_of nodes.old)).routes → has_node (path_steps path) (whole family (cells_of
         nodes.old)).nodes ≡ true → UndoesChange family (whole family (cells_of nodes.old)).routes
         (cells_of nodes.new) (best_in nodes.new) (record {
           path = path;
@@ -148,7 +148,7 @@ pub(crate) fn update_route<C: Counter>(
         })) }
     ensures err { OnErr result ((cells_of nodes.new ≡ cells_of nodes.old)
         × ((j : ℕ) → best_in nodes.new j ≡ best_in nodes.old j)) }
-    ensures steps { C.count steps.new ≤ C.count steps.old + path.left + 1 + nodes_in (path_of path) (whole
+    ensures steps { C.count steps.new ≤ C.count steps.old + path.left + 1 + nodes_in (path_steps path) (whole
         family (cells_of nodes.old)).nodes }
 {
     let depth = family.width();
@@ -166,7 +166,7 @@ pub(crate) fn take_back(family: Family, nodes: &mut Nodes, undo: Undo) -> Vec<Ch
     requires undo { CanUndo family (cells_of nodes.old) (best_in nodes.old) (Some undo) }
     ensures arena { IsArena family (cells_of nodes.new) nodes.new.free }
     ensures best { KeepsBest family (cells_of nodes.new) (best_in nodes.new) }
-    ensures walks { whole family (cells_of nodes.new) ≡ edited Route (path_of undo.path)
+    ensures walks { whole family (cells_of nodes.new) ≡ edited Route (path_steps undo.path)
         undo.hop (whole family (cells_of nodes.old)) }
 {
     let _ = family;
@@ -179,9 +179,9 @@ pub(crate) fn take_back(family: Family, nodes: &mut Nodes, undo: Undo) -> Vec<Ch
 pub(crate) fn change(family: Family, nodes: &mut Nodes, path: Path, hop: Option<u16>)
     requires few { path.left ≤ width family }
     requires arena { IsArena family (cells_of nodes.old) nodes.old.free }
-    requires allowed { CanEdit (path_of path) hop (whole family (cells_of nodes.old)).nodes }
+    requires allowed { CanEdit (path_steps path) hop (whole family (cells_of nodes.old)).nodes }
     ensures arena { IsArena family (cells_of nodes.new) nodes.new.free }
-    ensures walks { whole family (cells_of nodes.new) ≡ edited Entry (path_of path) hop (whole
+    ensures walks { whole family (cells_of nodes.new) ≡ edited Entry (path_steps path) hop (whole
         family (cells_of nodes.old)) }
     ensures halves { HalvesStay (cells_of nodes.old) (cells_of nodes.new) }
     ensures kept { bests_of nodes.new ≡ bests_of nodes.old }
@@ -210,11 +210,11 @@ pub(crate) fn insert_entry(
     ensures arena { IsArena family (cells_of nodes.new) nodes.new.free }
     ensures best { KeepsBest family (cells_of nodes.new) (best_in nodes.new) }
     ensures undo { CanUndo family (cells_of nodes.new) (best_in nodes.new) undo.new }
-    ensures laid { OnOk result (IsLaid Entry (path_of path) hop (whole family (cells_of nodes.old)) (whole
+    ensures laid { OnOk result (IsLaid Entry (path_steps path) hop (whole family (cells_of nodes.old)) (whole
         family (cells_of nodes.new))) }
     ensures err { OnErr result ((whole family (cells_of nodes.new)
         ≡ whole family (cells_of nodes.old)) × (undo.new ≡ undo.old)) }
-    ensures held { has_node (path_of path) (whole family (cells_of nodes.old)).nodes ≡ true
+    ensures held { has_node (path_steps path) (whole family (cells_of nodes.old)).nodes ≡ true
         → IsOk result × (undo.new ≡ undo.old) }
 {
     if undo.is_some() && is_node(nodes, 0, path) {
@@ -235,7 +235,7 @@ pub(crate) fn drop_unused(family: Family, nodes: &mut Nodes, path: Path)
         ≡ (whole family (cells_of nodes.old)).routes }
     ensures entries { (whole family (cells_of nodes.new)).entries
         ≡ (whole family (cells_of nodes.old)).entries }
-    ensures trimmed { IsTrimmed (path_of path) (whole family (cells_of nodes.old)) (whole family
+    ensures trimmed { IsTrimmed (path_steps path) (whole family (cells_of nodes.old)) (whole family
         (cells_of nodes.new)) }
     ensures best { KeepsBest family (cells_of nodes.old) (best_in nodes.old)
         → KeepsBest family (cells_of nodes.new) (best_in nodes.new) }

@@ -1,6 +1,6 @@
-use Rattle.std.proofs.Common.{ap, sym, subst, ◌∙◌, ℕ, slice_set, ◌++◌, [], ◌∷◌, arith, vec_len}
+use Rattle.std.proofs.Common.{ap, sym, subst, ◌∙◌, ℕ, slice_set, ◌++◌, [], ◌∷◌, arith}
 use Rattle.orig_tree.specs.Arena.{cells_of, IsSplit}
-use Rattle.orig_tree.specs.Bests.{best_in, best_one, put_at}
+use Rattle.orig_tree.specs.Bests.{best_in}
 use Rattle.orig_tree.proofs.Rooms.{split_is}
 use Rattle.orig_tree.proofs.Stores.{put_same, bests_same}
 use Rattle.orig_tree.proofs.node.split.Goals as goal

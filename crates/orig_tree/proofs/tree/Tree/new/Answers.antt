@@ -1,4 +1,4 @@
-use Rattle.std.proofs.Common.{arith, ap}
+use Rattle.std.proofs.Common.{ap}
 use Rattle.orig_tree.specs.Walk.{Walks}
 use Rattle.orig_tree.specs.Arena.{cells_of, whole}
 use Rattle.orig_tree.proofs.Places.{in_place_nil}

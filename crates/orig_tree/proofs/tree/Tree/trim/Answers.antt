@@ -1,9 +1,8 @@
-use Rattle.std.proofs.Common.{arith, ap}
+use Rattle.std.proofs.Common.{ap}
 use Rattle.table_model.specs.Bits.{bits_of}
 use Rattle.orig_tree.specs.Views.{Labels}
 use Rattle.orig_tree.specs.Arena.{cells_of, whole}
 use Rattle.orig_tree.proofs.Trimming.{trimmed_tree}
-use Rattle.orig_tree.specs.Bests.{best_in}
 use Rattle.orig_tree.proofs.Places.{same_rows}
 use Rattle.orig_tree.proofs.tree.Tree.trim.Goals as goal
 
