@@ -3,7 +3,10 @@ use Rattle.std.proofs.Common.{◌≡◌, ◌≢◌, ◌-◌, ℕ, List, [], ◌�
 use Rattle.std.specs.Prelude.{is_some}
 use Rattle.std.specs.Int.{bit_at}
 use Rattle.table_model.specs.Bits.{bits_of}
-use Rattle.table_model.specs.Table.{Table, root, half, cut}
+use Rattle.table_model.specs.Table.{Table, root, half, cut, inherit}
+use Rattle.table_model.specs.Regions.{above}
+use Rattle.table_model.proofs.Above.{above_cut}
+use Rattle.orig_tree.proofs.Above.{above_here}
 use Rattle.table_model.specs.declared.family.Family.{Family}
 use Rattle.table_model.specs.Entries.{Entries, of_family, of_table}
 use Rattle.table_model.proofs.Both.{family_is}
@@ -46,6 +49,17 @@ none_around (b ∷ p) = (refl, none_around p)
 pub sought_none : (n : Option Walks) (p : List Bool) → is_some n ≡ false → ((behind n).routes ≡ cut p (behind n).routes) × ((behind n).entries ≡ cut p (behind n).entries) × NoneAround p (behind n).entries
 sought_none None p e = (sym (cut_nil p), sym (cut_nil p), none_around p)
 sought_none (Some w) p e = let z : true ≡ false = e in absurd cc
+
+-- what is inherited at the end of a way
+pub above_end : (left q : ℕ) (T : Table) (h : ℕ) → left ≡ 0 → h ≡ above (bits_of left q) T h
+above_end left q T h z = above_here T left q h z
+
+pub above_step : (left q : ℕ) (b : Bool) (T U : Table) (h i : ℕ) → left ≢ 0 → b ≡ nat_eq (bit_at q (left - 1)) 1 → U ≡ half b T → i ≡ inherit (root T) h → above (bits_of (left - 1) q) U i ≡ above (bits_of left q) T h
+above_step left q b T U h i n e u v = ap (λ x. above (bits_of (left - 1) q) x i) u ∙ (ap (above (bits_of (left - 1) q) (half b T)) v ∙ (sym (above_cut b (bits_of (left - 1) q) T h) ∙ ap (λ p. above p T h) (sym (first_bit left q b n e))))
+
+-- beyond the last node nothing is
+pub above_none : (p : List Bool) (h : ℕ) → h ≡ above p [] h
+above_none p h = refl
 
 pub found_at : (f : Family) (B P : List Bool) (T M : Table) (E : Entries) → of_table f T ≡ E → B ≡ P → M ≡ cut B T → M ≡ cut P (of_family f E)
 found_at f B P T M E e y m = m ∙ (ap (λ p. cut p T) y ∙ ap (cut P) (sym (family_is f T) ∙ ap (of_family f) e))

@@ -18,7 +18,7 @@ ghost use Rattle.smalta_keep.specs.KnownBelow.{IsKnown, IsKnownBefore};
 ghost use Rattle.smalta_keep.specs.Places.{IsPassPlace};
 ghost use Rattle.smalta_keep.specs.Passes.{IsPass, IsRootOf, AreWhole, IsRepair};
 
-use crate::place::{Place, Rerouted, node_at, seek};
+use crate::place::{Place, Rerouted, seek, walk_to};
 use fib_addr::{Entry, Hop, Prefix, push_entry};
 use fib_delta::{Change, between};
 use orig_tree::{NodeRef, Tree, path_bits};
@@ -144,9 +144,10 @@ pub fn differing_within(
     let _family = tree.family();
     let q = path_bits(prefix);
     let met = seek(root_of(dirty), q, prefix.len, dirty.is_none());
+    let end = walk_to(tree, prefix);
     let place = Place {
         region: tree.region(prefix),
-        node: node_at(tree, prefix),
+        node: end.node,
         dirty: met.node,
         marked: met.marked,
         rerouted: Rerouted::Here,
@@ -155,10 +156,9 @@ pub fn differing_within(
         had: Vec::new(alloc),
         gets: Vec::new(alloc),
     };
-    let hop = tree.inherited(prefix).0;
     let inherited = Inherited {
-        had: hop,
-        gets: hop,
+        had: end.hop,
+        gets: end.hop,
     };
     list_differing(&place, *prefix, inherited, &mut out)?;
     Ok(out)

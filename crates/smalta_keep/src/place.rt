@@ -5,6 +5,7 @@ ghost use Rattle.table_model.specs.Bits.{bits_of};
 ghost use Rattle.table_model.specs.Width.{width};
 ghost use Rattle.table_model.specs.Table.{IsTable, root, half, inherit, cut};
 ghost use Rattle.table_model.specs.Entries.{of_family};
+ghost use Rattle.table_model.specs.Regions.{above};
 ghost use Rattle.fib_addr.specs.Views.{prefix_as};
 ghost use Rattle.kept_model.specs.Parts.{HasNoHalves};
 ghost use Rattle.kept_model.specs.Stays.{is_wide_mark, NoneAround};
@@ -139,6 +140,50 @@ pub fn seek<'a>(mut node: Option<NodeRef<'a>>, q: u128, mut left: u8, mut marked
     Found { node, marked }
 }
 
+/// Where a way down a tree ends.
+#[derive(Drop)]
+pub struct WayEnd<'a> {
+    /// The node at the end of the way, if it is one.
+    pub node: Option<NodeRef<'a>>,
+    /// The hop of the longest entry that the end of the way is strictly within, or none.
+    pub hop: u16,
+}
+
+/// The end of a path of `left` bits below a node. It costs the nodes on the way.
+fn walk<'a>(mut node: NodeRef<'a>, q: u128, mut left: u8) -> WayEnd<'a>
+    requires { left ≤ 128 }
+    ensures routes { (behind result.node).routes ≡ cut (bits_of left q) node.entry.routes }
+    ensures entries { (behind result.node).entries ≡ cut (bits_of left q) node.entry.entries }
+    ensures hop { result.hop ≡ above (bits_of left q) node.entry.entries 0 }
+{
+    let mut hop = 0;
+    while left > 0 {
+        left -= 1;
+        hop = node.hop(Label::Entry).unwrap_or(hop);
+        match node.half(bit_at(q, left)) {
+            Some(next) => node = next,
+            None => return WayEnd { node: None, hop },
+        }
+    }
+    WayEnd {
+        node: Some(node),
+        hop,
+    }
+}
+
+/// The node of a prefix in a tree, if it is one, and what the prefix inherits from the entries above it, in one walk.
+pub fn walk_to<'a>(tree: &'a Tree, prefix: &Prefix) -> WayEnd<'a>
+    requires { prefix.now.family ≡ tree.now.family }
+    ensures entries { (behind result.node).entries ≡ cut (prefix_as prefix.now).bits
+        (of_family tree.now.family tree.now.entries) }
+    ensures routes { (behind result.node).routes ≡ cut (prefix_as prefix.now).bits
+        (of_family tree.now.family tree.now.routes) }
+    ensures hop { result.hop ≡ above (prefix_as prefix.now).bits
+        (of_family tree.now.family tree.now.entries) 0 }
+{
+    walk(tree.root(), path_bits(prefix), prefix.len)
+}
+
 /// The node of a prefix in a tree, if it is one.
 pub fn node_at<'a>(tree: &'a Tree, prefix: &Prefix) -> Option<NodeRef<'a>>
     requires { prefix.now.family ≡ tree.now.family }
@@ -147,7 +192,7 @@ pub fn node_at<'a>(tree: &'a Tree, prefix: &Prefix) -> Option<NodeRef<'a>>
     ensures routes { (behind result).routes ≡ cut (prefix_as prefix.now).bits
         (of_family tree.now.family tree.now.routes) }
 {
-    seek(Some(tree.root()), path_bits(prefix), prefix.len, true).node
+    walk_to(tree, prefix).node
 }
 
 impl Rerouted {
