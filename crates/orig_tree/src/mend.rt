@@ -26,7 +26,8 @@ use std::alloc::{AllocError, Global};
 
 /// Notes what a place is to keep.
 fn note(place: usize, best: &Best, out: &mut Plan) -> Result<(), AllocError>
-    ensures { OnOk result (out.new.changes.items ≡ out.old.changes.items ++ record { place = place; best = best.now } ∷ []) }
+    ensures { OnOk result (out.new.changes.items ≡ out.old.changes.items
+        ++ record { place = place; best = best.now } ∷ []) }
 {
     let best = best.copied(out.alloc)?;
     out.changes.push(Change { place, best })?;
@@ -61,8 +62,8 @@ fn mend<C: Counter>(
         (cells_of nodes.now) i).routes a h) i
         → Untouched p name (best_in nodes.now) (changed out.old.changes.items (best_in nodes.now))
         → IsMended depth (cells_of nodes.now) name i p (under hop (walks_at (suc depth) (cells_of
-        nodes.now) i).routes) (changed out.old.changes.items (best_in nodes.now)) (changed out.new.changes.items
-        (best_in nodes.now)) x) }
+        nodes.now) i).routes) (changed out.old.changes.items (best_in nodes.now))
+        (changed out.new.changes.items (best_in nodes.now)) x) }
     ensures steps { C.count steps.new ≤ C.count steps.old + length (walks_at (suc depth) (cells_of
         nodes.now) i).nodes }
 {
@@ -142,12 +143,13 @@ pub(crate) fn plan<C: Counter>(
         → AreBest (suc depth) (cells_of nodes.now) (best_in nodes.now) (λ a. lpm (walks_at (suc depth)
         (cells_of nodes.now) i).routes a inherited) i
         → Untouched p name (best_in nodes.now) (changed out.old.changes.items (best_in nodes.now))
-        → IsMended depth (cells_of nodes.now) name i p (λ a. lpm (edit (path_steps route.path) route.hop (walks_at
-        (suc depth) (cells_of nodes.now) i).routes) a inherited) (changed out.old.changes.items (best_in
-        nodes.now)) (changed out.new.changes.items (best_in nodes.now)) (kept_or x (best_in nodes.now i))) }
+        → IsMended depth (cells_of nodes.now) name i p (λ a. lpm (edit (path_steps route.path) route.hop
+        (walks_at (suc depth) (cells_of nodes.now) i).routes) a inherited)
+        (changed out.old.changes.items (best_in nodes.now))
+        (changed out.new.changes.items (best_in nodes.now)) (kept_or x (best_in nodes.now i))) }
     ensures steps { C.count steps.new + new_nodes (cells_of nodes.now) (path_steps route.path) i
-        ≤ C.count steps.old + route.path.left + 1 + nodes_in (path_steps route.path) (walks_at (suc depth) (cells_of
-        nodes.now) i).nodes }
+        ≤ C.count steps.old + route.path.left + 1 + nodes_in (path_steps route.path)
+        (walks_at (suc depth) (cells_of nodes.now) i).nodes }
 {
     if route.path.left == 0 {
         let mended = mend(nodes, i, route.hop.unwrap_or(inherited), depth, out, steps)?;
@@ -196,13 +198,14 @@ fn plan_half<C: Counter>(
         → IfHalf (λ j. AreBest (suc depth) (cells_of nodes.now) (best_in nodes.now) (λ a. lpm (walks_at
         (suc depth) (cells_of nodes.now) j).routes a inherited) j) half
         → Untouched p name (best_in nodes.now) (changed out.old.changes.items (best_in nodes.now))
-        → HalfMended depth (cells_of nodes.now) name half p (λ a. lpm (edit (path_steps route.path) route.hop
-        (from_half (walks_at (suc depth) (cells_of nodes.now)) half).routes) a inherited) (changed
-        out.old.changes.items (best_in nodes.now)) (changed out.new.changes.items (best_in nodes.now)) (kept_or x
-        (best_behind (best_in nodes.now) half (best_one inherited)))) }
+        → HalfMended depth (cells_of nodes.now) name half p (λ a. lpm (edit (path_steps route.path)
+        route.hop (from_half (walks_at (suc depth) (cells_of nodes.now)) half).routes) a inherited)
+        (changed out.old.changes.items (best_in nodes.now))
+        (changed out.new.changes.items (best_in nodes.now))
+        (kept_or x (best_behind (best_in nodes.now) half (best_one inherited)))) }
     ensures steps { C.count steps.new + new_behind (cells_of nodes.now) (path_steps route.path) half
-        ≤ C.count steps.old + route.path.left + 1 + nodes_in (path_steps route.path) (from_half (walks_at (suc depth)
-        (cells_of nodes.now)) half).nodes }
+        ≤ C.count steps.old + route.path.left + 1 + nodes_in (path_steps route.path)
+        (from_half (walks_at (suc depth) (cells_of nodes.now)) half).nodes }
 {
     match half {
         None => Ok(Some(fresh(route.path.left, inherited, route.hop))),

@@ -211,8 +211,8 @@ pub(crate) fn best_at<'a>(nodes: &'a Nodes, i: usize, none: &'a Best) -> &'a Bes
 /// Longest match below a node, for an address of which the path is left.
 pub(crate) fn answer(nodes: &Nodes, i: usize, label: Label, path: Path, inherited: u16) -> u16
     requires { path.left ≤ 128 }
-    ensures { (d : ℕ) → path.left < d → result ≡ lpm (rows_of label (walks_at d (cells_of nodes.now) i))
-        (path_steps path) inherited }
+    ensures { (d : ℕ) → path.left < d → result
+        ≡ lpm (rows_of label (walks_at d (cells_of nodes.now) i)) (path_steps path) inherited }
 {
     let node = read(nodes, i);
     let hop = node.hop(label).unwrap_or(inherited);
@@ -230,8 +230,8 @@ pub(crate) fn answer(nodes: &Nodes, i: usize, label: Label, path: Path, inherite
 /// What a path inherits from the entries: the hop of the longest one that it is strictly within.
 pub(crate) fn inherited(nodes: &Nodes, i: usize, path: Path, hop: u16) -> u16
     requires { path.left ≤ 128 }
-    ensures { (d : ℕ) → path.left < d → result ≡ above (path_steps path) (walks_at d (cells_of nodes.now)
-        i).entries hop }
+    ensures { (d : ℕ) → path.left < d → result
+        ≡ above (path_steps path) (walks_at d (cells_of nodes.now) i).entries hop }
 {
     if path.left == 0 {
         return hop;
@@ -607,7 +607,8 @@ pub(crate) fn set_label(
     hop: u16,
 ) -> Result<bool, AllocError>
     requires bits { path.left ≤ 128 }
-    ensures made { IfOk result (λ more. (d : ℕ) (name : ℕ → Owner) (n : ℕ) (p : List Bool) → path.left < d
+    ensures made { IfOk result (λ more. (d : ℕ) (name : ℕ → Owner) (n : ℕ) (p : List Bool)
+        → path.left < d
         → IsTree d (cells_of nodes.old) name i p → HasSpares (cells_of nodes.old) nodes.old.free name n
         → IsPlaced d label (path_steps path) hop (cells_of nodes.old) (cells_of nodes.new)
         nodes.new.free name i p (λ a. lpm (laid (route_set label hop) (path_steps path) (walks_at d

@@ -43,8 +43,8 @@ pub(crate) fn route_at(nodes: &Nodes, i: usize, path: Path) -> Option<u16>
 /// What there is at a path, in one walk.
 pub(crate) fn seek(nodes: &Nodes, i: usize, path: Path) -> OwnRoute
     requires { path.left ≤ 128 }
-    ensures node { (d : ℕ) → path.left < d → result.is_node ≡ has_node (path_steps path) (walks_at d (cells_of
-        nodes.now) i).nodes }
+    ensures node { (d : ℕ) → path.left < d → result.is_node
+        ≡ has_node (path_steps path) (walks_at d (cells_of nodes.now) i).nodes }
     ensures route { (d : ℕ) → path.left < d → result.hop
         ≡ entry_at (path_steps path) (walks_at d (cells_of nodes.now) i).routes }
 {
@@ -78,8 +78,8 @@ pub(crate) fn tell_within<S: EntrySink>(
     requires ready { S.ready out.old }
     ensures ready { OnOk result (S.ready out.new) }
     ensures takes { (d : ℕ) → path.left + (width prefix.now.family - prefix.now.len) < d
-        → FitsWidth (width prefix.now.family - prefix.now.len) (cut (path_steps path) (walks_at d (cells_of
-        nodes.now) i).entries) → OnOk result (S.takes out.old (of_table prefix.now.family
+        → FitsWidth (width prefix.now.family - prefix.now.len) (cut (path_steps path)
+        (walks_at d (cells_of nodes.now) i).entries) → OnOk result (S.takes out.old (of_table prefix.now.family
         (lift (prefix_as prefix.now).bits (cut (path_steps path) (walks_at d (cells_of nodes.now)
         i).entries))) out.new) }
 {

@@ -95,12 +95,12 @@ pub(crate) fn insert_route<C: Counter>(
     requires best { KeepsBest family (cells_of nodes.old) (best_in nodes.old) }
     ensures arena { IsArena family (cells_of nodes.new) nodes.new.free }
     ensures best { KeepsBest family (cells_of nodes.new) (best_in nodes.new) }
-    ensures laid { OnOk result (IsLaid Route (path_steps path) hop (whole family (cells_of nodes.old)) (whole
-        family (cells_of nodes.new))) }
+    ensures laid { OnOk result (IsLaid Route (path_steps path) hop (whole family
+        (cells_of nodes.old)) (whole family (cells_of nodes.new))) }
     ensures err { OnErr result ((cells_of nodes.new ≡ cells_of nodes.old)
         × ((j : ℕ) → best_in nodes.new j ≡ best_in nodes.old j)) }
-    ensures steps { C.count steps.new ≤ C.count steps.old + path.left + 1 + nodes_in (path_steps path) (whole
-        family (cells_of nodes.old)).nodes }
+    ensures steps { C.count steps.new ≤ C.count steps.old + path.left + 1
+        + nodes_in (path_steps path) (whole family (cells_of nodes.old)).nodes }
 {
     reserve(nodes, path.left as usize)?;
     let depth = family.width();
@@ -136,8 +136,8 @@ pub(crate) fn update_route<C: Counter>(
     requires allowed { CanEdit (path_steps path) set (whole family (cells_of nodes.old)).nodes }
     ensures arena { IsArena family (cells_of nodes.new) nodes.new.free }
     ensures best { KeepsBest family (cells_of nodes.new) (best_in nodes.new) }
-    ensures walks { OnOk result (whole family (cells_of nodes.new) ≡ edited Route (path_steps path) set
-        (whole family (cells_of nodes.old))) }
+    ensures walks { OnOk result (whole family (cells_of nodes.new)
+        ≡ edited Route (path_steps path) set (whole family (cells_of nodes.old))) }
     ensures back { IfOk result (λ v. (hop : Option ℕ) → hop ≡ entry_at (path_steps path) (whole family
         (cells_of nodes.old)).routes → has_node (path_steps path) (whole family (cells_of
         nodes.old)).nodes ≡ true → UndoesChange family (whole family (cells_of nodes.old)).routes
@@ -148,8 +148,8 @@ pub(crate) fn update_route<C: Counter>(
         })) }
     ensures err { OnErr result ((cells_of nodes.new ≡ cells_of nodes.old)
         × ((j : ℕ) → best_in nodes.new j ≡ best_in nodes.old j)) }
-    ensures steps { C.count steps.new ≤ C.count steps.old + path.left + 1 + nodes_in (path_steps path) (whole
-        family (cells_of nodes.old)).nodes }
+    ensures steps { C.count steps.new ≤ C.count steps.old + path.left + 1
+        + nodes_in (path_steps path) (whole family (cells_of nodes.old)).nodes }
 {
     let depth = family.width();
     let mut planned = no_changes(alloc, spare, depth)?;
@@ -210,8 +210,8 @@ pub(crate) fn insert_entry(
     ensures arena { IsArena family (cells_of nodes.new) nodes.new.free }
     ensures best { KeepsBest family (cells_of nodes.new) (best_in nodes.new) }
     ensures undo { CanUndo family (cells_of nodes.new) (best_in nodes.new) undo.new }
-    ensures laid { OnOk result (IsLaid Entry (path_steps path) hop (whole family (cells_of nodes.old)) (whole
-        family (cells_of nodes.new))) }
+    ensures laid { OnOk result (IsLaid Entry (path_steps path) hop (whole family
+        (cells_of nodes.old)) (whole family (cells_of nodes.new))) }
     ensures err { OnErr result ((whole family (cells_of nodes.new)
         ≡ whole family (cells_of nodes.old)) × (undo.new ≡ undo.old)) }
     ensures held { has_node (path_steps path) (whole family (cells_of nodes.old)).nodes ≡ true
