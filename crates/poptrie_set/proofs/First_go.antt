@@ -1,5 +1,5 @@
 -- A lookup's first go: what it reads of a version, it can read on in places that stay as they are.
-use Rattle.std.proofs.Common.{◌≡◌, ℕ, suc, ◌^◌, ◌<◌, ◌≤◌, List, [], ◌∷◌, Bool, true, Option, Some, None, length, get_or, refl, arith, inl, inr}
+use Rattle.std.proofs.Common.{◌≡◌, ℕ, suc, ◌^◌, ◌<◌, List, [], ◌∷◌, Bool, true, Option, Some, None, length, get_or, refl, arith, inl, inr}
 use Rattle.std.specs.Prelude.{◌⊎◌}
 use Rattle.table_model.specs.Bits.{bits_of}
 use Rattle.table_model.specs.declared.family.Family.{Family}

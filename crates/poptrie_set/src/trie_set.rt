@@ -68,8 +68,8 @@ impl Model for TrieSet {
       time = l.arenas.node_blocks.time;
     } };
 
-    ghost invariant = { λ l. IsLive l.direct_bits l.words.items l.arenas.nodes l.arenas.leaves l.arenas.node_blocks
-        l.arenas.leaf_blocks l.pending l.stores.items l.made
+    ghost invariant = { λ l. IsLive l.direct_bits l.words.items l.arenas.nodes l.arenas.leaves
+        l.arenas.node_blocks l.arenas.leaf_blocks l.pending l.stores.items l.made
         × ShowsSome (record {
           family = l.family;
           direct_bits = l.direct_bits;

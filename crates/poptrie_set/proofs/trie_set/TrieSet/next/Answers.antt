@@ -1,4 +1,4 @@
-use Rattle.std.proofs.Common.{ℕ, List, Bool, ◌+◌, ◌*◌, ◌%◌, ◌^◌, ◌<◌, ap, subst, sym, arith}
+use Rattle.std.proofs.Common.{ℕ, ◌+◌, ◌*◌, ◌%◌, ◌^◌, ◌<◌, ap, subst, sym, arith}
 use Rattle.poptrie_set.specs.Lives.{Seen}
 use Rattle.poptrie_set.specs.Reading.{ReadsOn, CanRead, LeadsIn, IsKeyOf, bits_after}
 use Rattle.poptrie_set.proofs.Key_bits.{key_of_rest}
