@@ -5,8 +5,8 @@ use Rattle.buddy_arena.specs.Space.{blocks, num, marked, has_block}
 use Rattle.buddy_arena.specs.Masks.{ord, mask, free_of, IsMaskTree}
 
 -- the place of the free block of an order
-abbrev pub place_of : List (Option ℕ) → ℕ → Option ℕ
-place_of places j = slice_index_or places j None
+abbrev pub kept_at : List (Option ℕ) → ℕ → Option ℕ
+kept_at places j = slice_index_or places j None
 
 -- with a block of this order free too, where there is one
 abbrev pub with_block : ℕ → Option ℕ → List Bool → List Bool
@@ -16,7 +16,7 @@ with_block j (Some p) f = marked p (2 ^ j) true f
 -- with the blocks of the orders below k
 unfoldable pub with_blocks : ℕ → List (Option ℕ) → List Bool → List Bool
 with_blocks zero places f = f
-with_blocks (suc k) places f = with_block k (place_of places k) (with_blocks k places f)
+with_blocks (suc k) places f = with_block k (kept_at places k) (with_blocks k places f)
 
 -- the free places of a fresh arena of this order: those of the blocks whose places are kept
 abbrev pub fresh_free : ℕ → List (Option ℕ) → List Bool
@@ -26,33 +26,33 @@ fresh_free order places = with_blocks 31 places (replicate (2 ^ order) false)
 abbrev pub free_in : Bool → ℕ → ℕ → List ℕ → List (Option ℕ) → List Bool
 free_in fresh base height masks places = cond fresh (fresh_free (ord base height) places) (free_of base height masks)
 
-abbrev pub how_many : Option ℕ → ℕ
-how_many None = 0
-how_many (Some p) = 1
+abbrev pub kept_count : Option ℕ → ℕ
+kept_count None = 0
+kept_count (Some p) = 1
 
 -- the places kept are those of all free blocks
 pub record AreKept (order : ℕ) (f : List Bool) (places : List (Option ℕ)) : Type 0 where
-  pub many : (j : ℕ) → num j (blocks order f) ≡ how_many (place_of places j)
-  pub at : (j p : ℕ) → place_of places j ≡ Some p → has_block j p (blocks order f) ≡ true
+  pub many : (j : ℕ) → num j (blocks order f) ≡ kept_count (kept_at places j)
+  pub at : (j p : ℕ) → kept_at places j ≡ Some p → has_block j p (blocks order f) ≡ true
 
 -- the block of order m, at p, is gone; of its halves down to order k the upper ones are kept
 pub record SplitsAt (k m p : ℕ) (old new : List (Option ℕ)) : Type 0 where
-  pub lower : (j : ℕ) → j < k → place_of new j ≡ place_of old j
-  pub halves : (j : ℕ) → k ≤ j → j < m → place_of new j ≡ Some (p + 2 ^ j)
-  pub gone : place_of new m ≡ None
-  pub higher : (j : ℕ) → m < j → place_of new j ≡ place_of old j
+  pub lower : (j : ℕ) → j < k → kept_at new j ≡ kept_at old j
+  pub halves : (j : ℕ) → k ≤ j → j < m → kept_at new j ≡ Some (p + 2 ^ j)
+  pub gone : kept_at new m ≡ None
+  pub higher : (j : ℕ) → m < j → kept_at new j ≡ kept_at old j
 
 -- the greatest order below a bound of which a block is free
 abbrev pub IsLastBelow : List (Option ℕ) → ℕ → Option ℕ → Type 0
-IsLastBelow places below None = (i : ℕ) → i < below → place_of places i ≡ None
-IsLastBelow places below (Some m) = (m < below) × ((p : ℕ) × (place_of places m ≡ Some p)) × ((i : ℕ) → m < i → i < below → place_of places i ≡ None)
+IsLastBelow places below None = (i : ℕ) → i < below → kept_at places i ≡ None
+IsLastBelow places below (Some m) = (m < below) × ((p : ℕ) × (kept_at places m ≡ Some p)) × ((i : ℕ) → m < i → i < below → kept_at places i ≡ None)
 
 -- this block is free, and no order from k on is less
 pub record IsFoundFrom (k m p : ℕ) (places : List (Option ℕ)) : Type 0 where
   pub from : k ≤ m
   pub below : m < 31
-  pub there : place_of places m ≡ Some p
-  pub least : (j : ℕ) → k ≤ j → j < m → place_of places j ≡ None
+  pub there : kept_at places m ≡ Some p
+  pub least : (j : ℕ) → k ≤ j → j < m → kept_at places j ≡ None
 
 -- the masks are right, and a fresh arena's are of no free place, while the places that it keeps are those of all its free blocks
 pub record AreFree (fresh : Bool) (base height : ℕ) (masks : List ℕ) (places : List (Option ℕ)) : Type 0 where

@@ -6,7 +6,7 @@
 ghost use Rattle.std.specs.Prelude.{◌≡◌, ◌≢◌, ℕ, ◌+◌, ◌-◌, ◌*◌, ◌/◌, ◌^◌, ◌<◌, ◌≤◌, true, length, Some, None, OnErr, IfOk, IfErr, IfSome, IfNone};
 ghost use Rattle.buddy_arena.specs.Space.{blocks, NoneFrom, IsGreatest, IsOut, TakesBlock, free_count, OneEach, Apart};
 ghost use Rattle.buddy_arena.specs.Masks.{ord, mask, free_of, IsMaskTree};
-ghost use Rattle.buddy_arena.specs.Fresh.{place_of, with_block, fresh_free, free_in, AreKept, AreFree, SplitsAt, IsLastBelow, IsFoundFrom};
+ghost use Rattle.buddy_arena.specs.Fresh.{kept_at, with_block, fresh_free, free_in, AreKept, AreFree, SplitsAt, IsLastBelow, IsFoundFrom};
 
 use crate::arena::{Block, Full};
 use crate::merges::give_to;
@@ -20,8 +20,8 @@ pub(crate) fn keep_whole(places: &mut [Option<u32>], order: u8)
     requires long { length places.old ≡ 31 }
     requires few { order < 31 }
     ensures long { length places.new ≡ 31 }
-    ensures whole { place_of places.new order ≡ Some 0 }
-    ensures none { (j : ℕ) → j ≢ order → place_of places.new j ≡ None }
+    ensures whole { kept_at places.new order ≡ Some 0 }
+    ensures none { (j : ℕ) → j ≢ order → kept_at places.new j ≡ None }
 {
     for place in places.iter_mut() {
         *place = None;
@@ -33,7 +33,7 @@ pub(crate) fn keep_whole(places: &mut [Option<u32>], order: u8)
 fn least_from(places: &[Option<u32>], order: u8) -> Option<Block>
     requires { length places.now ≡ 31 }
     ensures found { IfSome result (λ b. IsFoundFrom order b.order b.place places.now) }
-    ensures none { IfNone result ((j : ℕ) → order ≤ j → place_of places.now j ≡ None) }
+    ensures none { IfNone result ((j : ℕ) → order ≤ j → kept_at places.now j ≡ None) }
 {
     for at in order..31 {
         if let Some(place) = places[usize::from(at)] {
