@@ -20,8 +20,7 @@ use crate::choice::{Choice, Pick};
 use crate::down::cuts_of;
 use crate::entries::entries_of as all_entries;
 use crate::family_routes::FamilyRoutes;
-use crate::over::give_back;
-use crate::plan::{Plan, end_plan, over_of};
+use crate::plan::{Plan, end_plan, replace_plan};
 use crate::routes::routes_of as all_routes;
 use adj_rib_in::{Flat, PathAttrs, PathKey, Rank};
 use fib_prefix::{Addr, Cand, CandSink, Elem, Entry, Event, Family, HopTable, Peer, Prefix, Via};
@@ -93,14 +92,7 @@ impl Candidates {
     {
         let plan = plan_of(&self.flat, elem);
         make_space(&mut self.flat, &mut self.paths, &mut self.ranks, &plan)?;
-        let earlier = over_of(&self.room);
-        self.room = Some(plan);
-        give_back(
-            &mut self.paths,
-            &mut self.ranks,
-            earlier,
-            &over_of(&self.room),
-        );
+        replace_plan(&mut self.paths, &mut self.ranks, &mut self.room, plan);
         Ok(())
     }
 
@@ -133,10 +125,10 @@ impl Candidates {
         ensures room { self.new.room ≡ None }
         ensures choice { IsChoice self.old.candidates (pick_elem pick) result }
     {
-        let Some(plan) = self.room else {
+        let Some(plan) = &self.room else {
             return pick.choice;
         };
-        carry_one(&mut self.flat, &mut self.paths, &mut self.ranks, &plan);
+        carry_one(&mut self.flat, &mut self.paths, &mut self.ranks, plan);
         self.room = None;
         pick.choice
     }

@@ -41,6 +41,7 @@ pub fn attrs_of(elem: &Elem) -> Option<PathAttrs>
 }
 
 /// What is offered at a path key.
+#[inline(never)]
 pub fn attrs_at(paths: &BTreeMap<PathKey, Option<PathAttrs>>, key: &PathKey) -> Option<PathAttrs>
     ensures { result ≡ offered paths.now.entries key.now }
 {
@@ -215,6 +216,7 @@ fn set_attrs(
 }
 
 /// Carries out an elementary event for which there is room.
+#[inline(never)]
 pub fn carry_out(
     paths: &mut BTreeMap<PathKey, Option<PathAttrs>>,
     ranks: &mut BTreeSet<Rank>,
@@ -380,6 +382,7 @@ fn make_room(
 }
 
 /// Makes room for what an elementary event offers, beside that of the plan before it. An `Err` leaves all as it was.
+#[inline(never)]
 pub fn make_room_for(
     paths: &mut BTreeMap<PathKey, Option<PathAttrs>>,
     ranks: &mut BTreeSet<Rank>,

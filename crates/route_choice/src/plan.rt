@@ -1,6 +1,6 @@
 //! What is planned, and where.
 
-ghost use Rattle.std.specs.Prelude.{◌≡◌, None};
+ghost use Rattle.std.specs.Prelude.{◌≡◌, Some, None};
 ghost use Rattle.adj_rib_in.specs.Paths.{attrs_at as offered};
 ghost use Rattle.route_choice.specs.Kept.{PathsAreKept};
 ghost use Rattle.route_choice.specs.Space.{over_of as over};
@@ -35,6 +35,41 @@ pub fn over_of(plan: &Option<Plan>) -> Option<Elem>
         }
         None => None,
     }
+}
+
+/// Gives back the room that an earlier plan holds and a plan doesn't.
+#[cold]
+#[inline(never)]
+fn give_back_earlier(
+    paths: &mut BTreeMap<PathKey, Option<PathAttrs>>,
+    ranks: &mut BTreeSet<Rank>,
+    earlier: &Option<Plan>,
+    plan: &Option<Plan>,
+)
+    ensures offers { (s : PathKey) → offered paths.new.entries s ≡ offered paths.old.entries s }
+    ensures kept { PathsAreKept paths.old.entries ranks.old.keys (over earlier.now) (over plan.now)
+        → PathsAreKept paths.new.entries ranks.new.keys None (over plan.now) }
+{
+    give_back(paths, ranks, over_of(earlier), &over_of(plan));
+}
+
+/// Puts a plan in place of an earlier one, and gives back the room that the earlier one alone holds; mostly there is none, and nothing
+/// is given back.
+pub fn replace_plan(
+    paths: &mut BTreeMap<PathKey, Option<PathAttrs>>,
+    ranks: &mut BTreeSet<Rank>,
+    room: &mut Option<Plan>,
+    plan: Plan,
+)
+    ensures offers { (s : PathKey) → offered paths.new.entries s ≡ offered paths.old.entries s }
+    ensures kept { PathsAreKept paths.old.entries ranks.old.keys (over room.old) (over (Some plan))
+        → PathsAreKept paths.new.entries ranks.new.keys None (over (Some plan)) }
+    ensures room { room.new ≡ Some plan }
+{
+    if room.is_some() {
+        give_back_earlier(paths, ranks, room, &Some(plan));
+    }
+    *room = Some(plan);
 }
 
 /// Makes a plan void, and gives back the room that it holds.

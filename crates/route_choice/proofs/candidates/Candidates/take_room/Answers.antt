@@ -1,9 +1,10 @@
-use Rattle.std.proofs.Common.{ap, ◌∙◌, Some}
+use Rattle.std.proofs.Common.{None, sym, ap, subst, ◌∙◌}
 use Rattle.std.specs.Prelude.{option_map}
 use Rattle.std.proofs.lemmas.Result.{err_from_is_err_and}
 use Rattle.route_choice.specs.Held.{HeldCandidates}
-use Rattle.route_choice.specs.Space.{planned_elem, over_of}
-use Rattle.route_choice.proofs.Spaces.{space_stays, apart_both, kept_after}
+use Rattle.route_choice.specs.Kept.{PathsAreKept}
+use Rattle.route_choice.specs.Space.{HasSpace, planned_elem, over_of}
+use Rattle.route_choice.proofs.Spaces.{space_stays, apart_both}
 use Rattle.adj_rib_in.proofs.Views.{unchanged}
 use Rattle.adj_rib_in.proofs.Parts.{both_same, over_same, apart_same}
 use Rattle.route_choice.proofs.candidates.Candidates.take_room.Goals as goal
@@ -22,10 +23,10 @@ returns-in_err-make_space-clause-err c =
 pub invariant_of-self-2 : goal.invariant_of-self-2
 invariant_of-self-2 c = (
   c.make_space.ensures.flat,
-  apart_same _ c.make_space.new.paths.entries _ c.give_back.ensures.offers (apart_both _ _ c.self.inside.paths.entries _ c.make_space.ensures.base c.make_space.ensures.offers c.self.invariant.1),
-  kept_after c.self.inside.paths.entries c.make_space.new.paths.entries c.give_back.new.paths.entries c.self.inside.ranks.keys c.make_space.new.ranks.keys c.give_back.new.ranks.keys c.self.inside.room c.over_of-earlier.result c.over_of.result (over_of (Some c.plan_of-plan.result)) c.self.invariant.2 c.in_ok-make_space.ensures.kept c.over_of-earlier.ensures c.over_of.ensures c.give_back.ensures.kept,
-  c.in_ok-make_space.ensures.space,
+  apart_same _ c.make_space.new.paths.entries _ c.replace_plan.ensures.offers (apart_both _ _ c.self.inside.paths.entries _ c.make_space.ensures.base c.make_space.ensures.offers c.self.invariant.1),
+  subst (λ r. PathsAreKept c.replace_plan.new.paths.entries c.replace_plan.new.ranks.keys None (over_of r)) (sym c.replace_plan.ensures.room) (c.replace_plan.ensures.kept (c.in_ok-make_space.ensures.kept (over_of c.self.inside.room) c.self.invariant.2)),
+  subst (HasSpace c.make_space.new.flat) (sym c.replace_plan.ensures.room) c.in_ok-make_space.ensures.space,
 )
 
 pub returns-clause-candidates : goal.returns-clause-candidates
-returns-clause-candidates c = unchanged _ _ (over_same _ _ _ c.give_back.ensures.offers) ∙ (unchanged _ _ (both_same _ _ _ _ c.make_space.ensures.base c.make_space.ensures.offers) ∙ ap (λ (h : HeldCandidates). h.candidates) c.self.view_is)
+returns-clause-candidates c = unchanged _ _ (over_same _ _ _ c.replace_plan.ensures.offers) ∙ (unchanged _ _ (both_same _ _ _ _ c.make_space.ensures.base c.make_space.ensures.offers) ∙ ap (λ (h : HeldCandidates). h.candidates) c.self.view_is)
