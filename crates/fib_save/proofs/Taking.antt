@@ -1,6 +1,5 @@
 -- Candidates that take the events of an input, piece by piece.
-use Rattle.std.proofs.Common.{◌≡◌, ℕ, ◌+◌, ◌^◌, ◌<◌, ◌≤◌, List, [], ◌∷◌, ◌++◌, length, map, take, drop, get_or, Option, None, Ok, Err, refl, sym, ap, ◌∙◌}
-use Rattle.std.specs.Prelude.{IfSome, IsErrOf}
+use Rattle.std.proofs.Common.{◌≡◌, ℕ, ◌+◌, ◌<◌, ◌≤◌, List, [], ◌∷◌, ◌++◌, length, map, take, drop, get_or, Option, None, refl, sym, ap, ◌∙◌}
 use Rattle.std.proofs.lemmas.List.{drop_more, map-append}
 use Rattle.std.proofs.lemmas.List.Sums.{fold-append}
 use Rattle.std.proofs.Math.ListN.{drop_of_length-le}
@@ -10,19 +9,11 @@ use Rattle.route_model.proofs.Elems.{elems_more}
 use Rattle.fib_prefix.specs.Views.{elem_as, event_as}
 use Rattle.fib_prefix.specs.declared.event.Elem as code_elem
 use Rattle.fib_prefix.specs.declared.event.Event as code_event
-use Rattle.fib_io.specs.Pieces.{ComeNext, IsEnd, IsLarge}
-use Rattle.fib_io.specs.declared.pieces.ReadError.{ReadError}
-use Rattle.fib_io.specs.declared.pieces.ReadError.TheVariants as pieces
-use Rattle.mrt_read.specs.declared.framer.Malformed as code_malformed
 use Rattle.mrt_read.specs.Standing as reading
 use Rattle.mrt_read.specs.declared.reader.Reader.{Reader}
-use Rattle.mrt_read.specs.declared.reader.EventsError.{EventsError}
 use Rattle.wire_model.specs.Input.{start}
-use Rattle.mrt_read.specs.Whole.{IsInputRefused, MayGoOn, of_input, of_read}
-use Rattle.mrt_read.specs.declared.whole.WholeError.TheVariants.{Malformed}
-use Rattle.mrt_read.proofs.Cutting.{IsCutNow}
-use Rattle.mrt_read.proofs.Gathering.{Gathering, gathering_feeds, gathering_start, gathering_takes, goes_on_at, has_all}
-use Rattle.mrt_read.proofs.Gathering as gathering
+use Rattle.mrt_read.specs.InputReading.{EndsWhole, TakesNext}
+use Rattle.mrt_read.proofs.Gathering.{Gathering, gathering_next, gathering_start, next_ends}
 use Rattle.mrt_write.specs.Reads.{after_events}
 use Rattle.fib_save.specs.Brings.{TakesInput}
 
@@ -72,28 +63,12 @@ pub record Taking (content : Option (List ℕ)) (before : Candidates) (reader : 
 pub taking_start : (content : Option (List ℕ)) (before : Candidates) (reader : Reader) → reading.reader_left reader ≡ [] → reading.reader_refusal reader ≡ None → reading.ReaderStands [] start reader → Taking content before reader 0 before
 taking_start content before reader empty none s = record { events = []; gathered = gathering_start content reader empty none s; are = sym (no_event before) }
 
-pub taking_feeds : (content : Option (List ℕ)) (before now : Candidates) (old new : Reader) (room : List ℕ) (at n : ℕ) → n ≤ length room → IfSome content (λ c. ComeNext c at room n) → Taking content before old at now → reading.ReaderFeeds old (take n room) new → Taking content before new (at + n) now
-taking_feeds content before now old new room at n most next s feeds = record { events = s.events; gathered = gathering_feeds content old new room at n s.events most next s.gathered feeds; are = s.are }
-
-pub taking_takes : (content : Option (List ℕ)) (before mid now : Candidates) (old new : Reader) (at : ℕ) (more : List code_event.Event) → Taking content before old at mid → reading.TakesEvents old (map event_as more) new → now ≡ after_events mid (map event_as more) → Taking content before new at now
-taking_takes content before mid now old new at more s t is = record {
+pub taking_next : (content : Option (List ℕ)) (before mid now : Candidates) (old new : Reader) (at to : ℕ) (more : List code_event.Event) → TakesNext content at old (map event_as more) to new → now ≡ after_events mid (map event_as more) → Taking content before old at mid → Taking content before new to now
+taking_next content before mid now old new at to more t is s = record {
   events = s.events ++ more;
-  gathered = gathering_takes content old new at s.events more s.gathered t;
+  gathered = gathering_next content old new at to s.events more t s.gathered;
   are = is ∙ (ap (λ c. after_events c (map event_as more)) s.are ∙ (sym (events_more before (map event_as s.events) (map event_as more)) ∙ ap (after_events before) (sym (map-append event_as s.events more))));
 }
 
-pub takes_all : (content : Option (List ℕ)) (before now : Candidates) (reader : Reader) (at : ℕ) → IfSome content (λ c. IsEnd c at) → Taking content before reader at now → reading.ReaderTells reader (Ok tt) → TakesInput content before now
-takes_all content before now reader at end s t = record { events = map event_as s.events; has = has_all content reader at s.events end s.gathered t; are = s.are }
-
-pub refused_read : (content : Option (List ℕ)) (before now : Candidates) (old new : Reader) (at : ℕ) (error : EventsError) (more : List code_event.Event) → Taking content before old at now → reading.ReaderFills (Err error) (map event_as more) (reading.reader_next old) → reading.ReaderFilled old (Err error) (map event_as more) new → IfSome content (IsInputRefused (of_read error))
-refused_read content before now old new at error more s next t = gathering.refused_read content old new at s.events error more s.gathered next t
-
-pub refused_end : (content : Option (List ℕ)) (before now : Candidates) (reader : Reader) (at : ℕ) (malformed : code_malformed.Malformed) → IfSome content (λ c. IsEnd c at) → Taking content before reader at now → reading.ReaderTells reader (Err malformed) → IfSome content (IsInputRefused (Malformed malformed))
-refused_end content before now reader at malformed end s t = gathering.refused_end content reader at s.events malformed end s.gathered t
-
-pub refused_piece : (content : Option (List ℕ)) (before now : Candidates) (reader : Reader) (at : ℕ) (error : ReadError) → (IsErrOf {T = ℕ} (Err error) pieces.TooLarge → IfSome content (λ c. IsLarge c at)) → Taking content before reader at now → IsCutNow reader → IfSome content (IsInputRefused (of_input error))
-refused_piece content before now reader at error large s cut = gathering.refused_piece content reader at s.events error large s.gathered cut
-
--- what was fed breaks no rule but that its last record is cut
-pub may_go_on : (content : Option (List ℕ)) (before now : Candidates) (reader : Reader) (at : ℕ) → at ≤ 2 ^ 36 → Taking content before reader at now → IsCutNow reader → IfSome content (λ c. MayGoOn (take at c))
-may_go_on content before now reader at within s cut = goes_on_at content reader at s.events within s.gathered cut
+pub takes_all : (content : Option (List ℕ)) (before now : Candidates) (old new : Reader) (at to : ℕ) → EndsWhole content at old to new → Taking content before old at now → TakesInput content before now
+takes_all content before now old new at to ends s = record { events = map event_as s.events; has = next_ends content old new at to s.events ends s.gathered; are = s.are }

@@ -8,7 +8,7 @@ use Rattle.mrt_read.specs.Standing.{ReaderFeeds, ReaderStands, ReaderTakesNothin
 use Rattle.mrt_read.specs.declared.reader.Reader.{Reader}
 
 abbrev pub IsFed : Reader → ℕ → Type 0
-IsFed = input.IsFed
+IsFed = input.HoldsWithin
 
 pub fed_at_start : (r : Reader) → reader_left r ≡ [] → ReaderStands [] start r → IsFed r 0
 fed_at_start r nothing stands = omega (arith, stands.records, ap length nothing)

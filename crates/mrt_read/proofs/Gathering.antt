@@ -194,7 +194,7 @@ next_refused content old new at events Fault refused s = any_refused content
 pub next_ends : (content : Option (List ℕ)) (old new : Reader) (at to : ℕ) (events : List code_event.Event) → EndsWhole content at old to new → Gathering content old at events → IfSome content (HasEvents (map event_as events))
 next_ends content old new at to events (feeds, end, tells) s = has_all content new to events end (gathering_fed content old new at to events feeds s) tells
 
-fed_within : (c fed rest : List ℕ) → octets_read c ≡ fed ++ rest → length fed ≤ 2 ^ 36
+pub fed_within : (c fed rest : List ℕ) → octets_read c ≡ fed ++ rest → length fed ≤ 2 ^ 36
 fed_within c fed rest comes = omega (arith, ap length comes, length-append fed rest, length-take (2 ^ 36) c)
 
 may_go_on : (content : Option (List ℕ)) (reader : Reader) (at : ℕ) (events : List code_event.Event) → Gathering content reader at events → IsCutNow reader → IfSome content (λ c. MayGoOn (take at c))

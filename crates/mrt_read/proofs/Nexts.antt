@@ -17,7 +17,7 @@ use Rattle.mrt_read.specs.Whole.{of_input, of_read}
 use Rattle.mrt_read.specs.declared.reader.EventsError.{EventsError}
 use Rattle.mrt_read.specs.declared.reader.EventsError.TheVariants.{Malformed, NoMemory}
 use Rattle.mrt_read.proofs.Fed.{fed_more, fed_stays, fed_takes}
-use Rattle.mrt_read.specs.InputReading.{BeginCut, FeedsUpTo, HoldsNoMore, IsCutNow, IsFed, IsNextRefused, PassFrom, TakesNext}
+use Rattle.mrt_read.specs.InputReading.{BeginCut, FeedsUpTo, HoldsNoMore, IsCutNow, HoldsWithin, IsNextRefused, PassFrom, TakesNext}
 
 -- ---- what was fed
 
@@ -225,10 +225,10 @@ pub held_takes : (old new : Reader) (n : ℕ) (events : List Event) → HoldsNoM
 held_takes old new n events few next takes =
     λ none. fed_takes old new events n (few (not_refused (reader_refusal old) _ (Some events) next)) takes
 
-pub held_still : (old new : Reader) (n : ℕ) → HoldsNoMore old n → reader_next old ≡ Ok None → ReaderTakesNothing old new → IsFed new n
+pub held_still : (old new : Reader) (n : ℕ) → HoldsNoMore old n → reader_next old ≡ Ok None → ReaderTakesNothing old new → HoldsWithin new n
 held_still old new n few next nothing = fed_stays old new n (few (not_refused (reader_refusal old) _ None next)) nothing
 
-pub held_more : (old new : Reader) (piece : List ℕ) (at n : ℕ) → IsFed old at → ReaderFeeds old piece new → length piece ≡ n → HoldsNoMore new (at + n)
+pub held_more : (old new : Reader) (piece : List ℕ) (at n : ℕ) → HoldsWithin old at → ReaderFeeds old piece new → length piece ≡ n → HoldsNoMore new (at + n)
 held_more old new piece at n fed feeds is = λ none. fed_more old new piece at n fed feeds is
 
 -- ---- refusals

@@ -16,12 +16,12 @@ use Rattle.mrt_read.specs.Standing.{ReaderFeeds, ReaderRefuses, ReaderTells, Tak
 use Rattle.mrt_read.specs.Whole.{pass_end_by}
 
 -- the records read and the octets left are no more than so many octets
-abbrev pub IsFed : Reader → ℕ → Type 0
-IsFed reader n = reader_records reader + length (reader_left reader) ≤ n
+abbrev pub HoldsWithin : Reader → ℕ → Type 0
+HoldsWithin reader n = reader_records reader + length (reader_left reader) ≤ n
 
 -- so are they where the reader isn't refused
 abbrev pub HoldsNoMore : Reader → ℕ → Type 0
-HoldsNoMore reader n = ForNone (reader_refusal reader) (IsFed reader n)
+HoldsNoMore reader n = ForNone (reader_refusal reader) (HoldsWithin reader n)
 
 -- no whole record is left, and no bad header
 abbrev pub IsCutNow : Reader → Type 0
