@@ -96,8 +96,8 @@ impl<T: Copy> Arena<T> {
     }
 
     /// Takes a block of the order: from the free blocks of the least order that is large enough the lowest one, of which the
-    /// lower half is split on, and the upper halves stay free. It takes the time
-    /// of the orders that it splits, and in an arena to which something was given back that of the arena's order.
+    /// lower half is split on, and the upper halves stay free. It takes the time of the orders that it splits, and in an arena to
+    /// which something was given back that of the arena's order.
     ///
     /// In an arena to which nothing was given back since it was made or cleared no order has two free blocks; then it is
     /// refused only if fewer than 2 ^ order places are free.

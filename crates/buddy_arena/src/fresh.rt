@@ -12,9 +12,6 @@ use crate::arena::{Block, Full};
 use crate::merges::give_to;
 use crate::region::places_of;
 
-/// How many orders a block may have.
-pub(crate) const ORDERS: usize = 31;
-
 /// Lets all be free: one block of the arena's order.
 pub(crate) fn keep_whole(places: &mut [Option<u32>], order: u8)
     requires long { length places.old ≡ 31 }

@@ -1,9 +1,10 @@
 //! A buddy system (Knowlton, 'A fast storage allocator', 1965; Knuth, 'The Art of Computer Programming', volume 1, section 2.5)
 //! over an array of cells.
 //!
-//! An arena of order n has 2 ^ n places, at first one free block. As long as nothing is given back of each order one block is
-//! free at most, whose place is all that is kept, and `take` costs the orders that it splits. Then two bits a place say what is
-//! free, a word of 64 places a bit each, and above the words a mask of orders for each region: `take` and `give` cost the order.
+//! An arena of order n has 2 ^ n places, at first one free block. As long as nothing is given back, one block of each order is
+//! free at most: its place is all that is kept, and `take` costs the orders that it splits. From then on two bits a place say
+//! what is free, a word of 64 places a bit each, and above the words a mask of orders for each region: `take` and `give` cost the
+//! order.
 #![tactic(auto)]
 
 mod arena;
