@@ -60,22 +60,29 @@ fn half_of<'a>(node: &Option<NodeRef<'a>>, bit: bool) -> Option<NodeRef<'a>>
     }
 }
 
-/// The hop of a label of the node, if it is one and has it.
-fn hop_of(node: &Option<NodeRef<'_>>) -> Option<u16>
-    ensures { result ≡ root (behind node.now).entries }
+/// Whether there is a wide dirty prefix at a node.
+fn is_wide(node: &NodeRef<'_>) -> bool
+    ensures { result ≡ is_wide_mark (root node.now.entries) }
 {
-    match node {
-        Some(node) => node.hop(Label::Entry),
-        None => None,
+    match node.hop(Label::Entry) {
+        Some(hop) => hop != 0,
+        None => false,
     }
+}
+
+/// Whether a wide dirty prefix was met, or there is one at a node.
+fn meets(node: &NodeRef<'_>, met: bool) -> bool
+    ensures { result ≡ (met || is_wide_mark (root node.now.entries)) }
+{
+    met || is_wide(node)
 }
 
 /// Whether there is a wide dirty prefix at the node, if it is one.
 fn has_wide(node: &Option<NodeRef<'_>>) -> bool
     ensures { result ≡ is_wide_mark (root (behind node.now).entries) }
 {
-    match hop_of(node) {
-        Some(hop) => hop != 0,
+    match node {
+        Some(node) => is_wide(node),
         None => false,
     }
 }
@@ -120,24 +127,41 @@ fn is_unmarked(node: &Option<NodeRef<'_>>) -> bool
     false
 }
 
-/// The node of a path of `left` bits below one, if there are such, and whether a wide dirty prefix is on the way to it, or already was.
+/// The node of a path of `left` bits below a node, if it is one, and whether a wide dirty prefix is on the way to it, or already was.
 /// It ends at the last node on the way.
-pub fn seek<'a>(mut node: Option<NodeRef<'a>>, q: u128, mut left: u8, mut marked: bool) -> Found<'a>
+fn seek_below<'a>(mut node: NodeRef<'a>, q: u128, mut left: u8, mut marked: bool) -> Found<'a>
+    requires { left ≤ 128 }
+    ensures routes { (behind result.node).routes ≡ cut (bits_of left q) node.entry.routes }
+    ensures entries { (behind result.node).entries ≡ cut (bits_of left q) node.entry.entries }
+    ensures marked { result.marked ≡ false
+        → (marked ≡ false) × NoneAround (bits_of left q) node.entry.entries }
+{
+    while left > 0 {
+        left -= 1;
+        marked = meets(&node, marked);
+        match node.half(bit_at(q, left)) {
+            Some(next) => node = next,
+            None => return Found { node: None, marked },
+        }
+    }
+    Found {
+        node: Some(node),
+        marked,
+    }
+}
+
+/// The same below a node, if it is one.
+pub fn seek<'a>(node: Option<NodeRef<'a>>, q: u128, left: u8, marked: bool) -> Found<'a>
     requires { left ≤ 128 }
     ensures routes { (behind result.node).routes ≡ cut (bits_of left q) (behind node.entry).routes }
     ensures entries { (behind result.node).entries ≡ cut (bits_of left q) (behind node.entry).entries }
     ensures marked { result.marked ≡ false
         → (marked ≡ false) × NoneAround (bits_of left q) (behind node.entry).entries }
 {
-    while left > 0 {
-        if node.is_none() {
-            return Found { node, marked };
-        }
-        left -= 1;
-        marked = meets_wide(&node, marked);
-        node = half_of(&node, bit_at(q, left));
+    match node {
+        Some(node) => seek_below(node, q, left, marked),
+        None => Found { node: None, marked },
     }
-    Found { node, marked }
 }
 
 /// Where a way down a tree ends.

@@ -1,48 +1,22 @@
-use Rattle.std.proofs.Common.{◌≢◌, ◌∙◌, ap, arith, not}
+use Rattle.std.proofs.Common.{◌≡◌, [], Option, None, refl, sym, subst}
 use Rattle.table_model.specs.Bits.{bits_of}
-use Rattle.orig_tree.specs.Walk.{behind}
-use Rattle.smalta_keep.proofs.Seeking.{sought_end, sought_step, sought_none, around_end, around_step}
+use Rattle.table_model.specs.Table.{Table, cut}
+use Rattle.kept_model.specs.Stays.{NoneAround}
+use Rattle.orig_tree.specs.Walk.{Walks, behind}
+use Rattle.smalta_keep.proofs.Seeking.{sought_none}
 use Rattle.smalta_keep.proofs.place.seek.Goals as goal
 
-pub loop-left-preserved : goal.loop-left-preserved
-loop-left-preserved c =
-    let l = c.loop-left in
-    let here = (behind l.node) in
-    let next = (behind c.half_of-node.result) in
-    let some : l.left ≢ 0 = λ e. omega (arith, e, c.loop-left-test.true) in
-    record {
-      few = omega (arith, l.invariant.few);
-      routes = sought_step l.left c.args.q c.bit_at.result here.routes next.routes some c.bit_at.ensures c.half_of-node.ensures.routes ∙ l.invariant.routes;
-      entries = sought_step l.left c.args.q c.bit_at.result here.entries next.entries some c.bit_at.ensures c.half_of-node.ensures.entries ∙ l.invariant.entries;
-      marked = λ x. l.invariant.marked (around_step l.left c.args.q c.bit_at.result here.entries next.entries l.marked c.meets_wide-marked.result some c.bit_at.ensures c.half_of-node.ensures.entries c.meets_wide-marked.ensures x);
-    }
+pub returns-in-None-clause-routes : goal.returns-in-None-clause-routes
+returns-in-None-clause-routes c =
+    let p = bits_of c.args.left c.args.q in
+    subst (λ (n : Option Walks). (behind None).routes ≡ cut p (behind n).routes) (sym c.in-None.is) (sought_none None p refl).0
 
-pub returns-then-is_none-clause-routes : goal.returns-then-is_none-clause-routes
-returns-then-is_none-clause-routes c =
-    let l = c.loop-left in
-    (sought_none l.node (bits_of l.left c.args.q) (c.is_none.ensures ∙ ap not c.if-is_none.true)).0 ∙ l.invariant.routes
+pub returns-in-None-clause-entries : goal.returns-in-None-clause-entries
+returns-in-None-clause-entries c =
+    let p = bits_of c.args.left c.args.q in
+    subst (λ (n : Option Walks). (behind None).entries ≡ cut p (behind n).entries) (sym c.in-None.is) (sought_none None p refl).1
 
-pub returns-then-is_none-clause-entries : goal.returns-then-is_none-clause-entries
-returns-then-is_none-clause-entries c =
-    let l = c.loop-left in
-    (sought_none l.node (bits_of l.left c.args.q) (c.is_none.ensures ∙ ap not c.if-is_none.true)).1 ∙ l.invariant.entries
-
-pub returns-then-is_none-clause-marked : goal.returns-then-is_none-clause-marked
-returns-then-is_none-clause-marked c = λ e.
-    let l = c.loop-left in
-    l.invariant.marked (e, (sought_none l.node (bits_of l.left c.args.q) (c.is_none.ensures ∙ ap not c.if-is_none.true)).2)
-
-pub returns-clause-routes : goal.returns-clause-routes
-returns-clause-routes c =
-    let l = c.loop-left in
-    sought_end l.left c.args.q (behind l.node).routes (omega (arith, c.loop-left-test.false)) ∙ l.invariant.routes
-
-pub returns-clause-entries : goal.returns-clause-entries
-returns-clause-entries c =
-    let l = c.loop-left in
-    sought_end l.left c.args.q (behind l.node).entries (omega (arith, c.loop-left-test.false)) ∙ l.invariant.entries
-
-pub returns-clause-marked : goal.returns-clause-marked
-returns-clause-marked c = λ e.
-    let l = c.loop-left in
-    l.invariant.marked (around_end l.left c.args.q (behind l.node).entries l.marked (omega (arith, c.loop-left-test.false)) e)
+pub returns-in-None-clause-marked : goal.returns-in-None-clause-marked
+returns-in-None-clause-marked c = λ e.
+    let p = bits_of c.args.left c.args.q in
+    (e, subst (λ (n : Option Walks). NoneAround p (behind n).entries) (sym c.in-None.is) (sought_none None p refl).2)
