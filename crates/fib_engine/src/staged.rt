@@ -96,6 +96,13 @@ impl Staged {
         self.parts.limits.sizes
     }
 
+    /// How many changes the last event that was made needed, as `Engine::last_moves` reports it.
+    pub fn last_moves(&self) -> Option<u64>
+        ensures { result ≡ self.now.held.moves }
+    {
+        self.parts.moves
+    }
+
     /// The event as elementary events, as `Engine::elementary` returns it.
     ///
     /// # Errors

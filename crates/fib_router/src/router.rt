@@ -377,6 +377,14 @@ impl Router {
         self.lower.hops()
     }
 
+    /// How many changes the last event that ended needed before its snapshot; `None` exactly if it changed no chosen hop, or there
+    /// was no event yet.
+    pub fn last_moves(&self) -> Option<u64>
+        ensures { result ≡ self.now.held.moves }
+    {
+        self.lower.last_moves()
+    }
+
     /// The event as elementary events, as `Engine::elementary` returns it.
     ///
     /// # Errors
