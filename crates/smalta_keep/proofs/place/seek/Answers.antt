@@ -1,6 +1,6 @@
-use Rattle.std.proofs.Common.{◌≡◌, [], Option, None, refl, sym, subst}
+use Rattle.std.proofs.Common.{◌≡◌, Option, None, refl, sym, subst}
 use Rattle.table_model.specs.Bits.{bits_of}
-use Rattle.table_model.specs.Table.{Table, cut}
+use Rattle.table_model.specs.Table.{cut}
 use Rattle.kept_model.specs.Stays.{NoneAround}
 use Rattle.orig_tree.specs.Walk.{Walks, behind}
 use Rattle.smalta_keep.proofs.Seeking.{sought_none}
