@@ -8,7 +8,7 @@ use Rattle.buddy_arena.specs.Masks.{ord, mask, free_of, IsMaskTree}
 abbrev pub kept_at : List (Option ℕ) → ℕ → Option ℕ
 kept_at places j = slice_index_or places j None
 
--- with a block of this order free too, where there is one
+-- with a block of this order free too, if there is one
 abbrev pub with_block : ℕ → Option ℕ → List Bool → List Bool
 with_block j None f = f
 with_block j (Some p) f = marked p (2 ^ j) true f

@@ -10,6 +10,6 @@ abbrev pub IsRefusal : {T : Type 0} → Refused → ℕ → Space T → Type 0
 IsRefusal refused.Memory count s = Unit {0}
 IsRefusal (refused.Full f) count s = (2 ^ f.order ≡ up count) × NoneFrom f.order (blocks s.order s.free) × IsGreatest f.largest (blocks s.order s.free)
 
--- no free block is large enough for so many places
+-- no free block is large enough for `count` places
 abbrev pub HasNoBlockFor : {T : Type 0} → ℕ → Space T → Type 0
 HasNoBlockFor count s = (k : ℕ) → 2 ^ k ≡ up count → NoneFrom k (blocks s.order s.free)

@@ -62,7 +62,7 @@ impl FreePlaces {
     ///
     /// # Errors
     ///
-    /// No memory.
+    /// Out of memory.
     pub(crate) fn new(alloc: Global, order: u8) -> Result<FreePlaces, AllocError>
         requires { order ≤ 26 }
         ensures order { IfOk result (λ f. f.order ≡ order) }
@@ -139,7 +139,7 @@ impl FreePlaces {
         give_to(&mut self.masks, self.height, self.base, block);
     }
 
-    /// The greatest order of a free block, `None` where nothing is free.
+    /// The greatest order of a free block, `None` if nothing is free.
     pub(crate) fn largest(&self) -> Option<u8>
         ensures { IsGreatest result (blocks self.now.order self.now.free) }
     {

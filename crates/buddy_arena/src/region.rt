@@ -159,7 +159,7 @@ pub(crate) fn bare_masks(alloc: Global, height: u8, base: u8) -> Result<Vec<u64>
     Ok(vec![in alloc; 0u64; len]?)
 }
 
-/// Takes all that is free in a region, in which nothing is free as it is where `bare` says so.
+/// Takes all that is free in a region, in which nothing is free as it is if `bare` says so.
 pub(crate) fn leave_bare(masks: &mut [u64], height: u8, base: u8, bare: bool)
     requires right { IsMaskTree base height masks.old }
     requires few { base + height < 31 }

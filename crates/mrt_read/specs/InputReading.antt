@@ -15,7 +15,7 @@ use Rattle.mrt_read.specs.declared.whole.WholeError.TheVariants.{Malformed, NoMe
 use Rattle.mrt_read.specs.Standing.{ReaderFeeds, ReaderRefuses, ReaderTells, TakesEvents, reader_left, reader_next, reader_records, reader_refusal}
 use Rattle.mrt_read.specs.Whole.{pass_end_by}
 
--- the records read and the octets left are no more than so many octets
+-- the records read and the octets left are at most n octets
 abbrev pub HoldsWithin : Reader → ℕ → Type 0
 HoldsWithin reader n = reader_records reader + length (reader_left reader) ≤ n
 
@@ -27,7 +27,7 @@ HoldsNoMore reader n = ForNone (reader_refusal reader) (HoldsWithin reader n)
 abbrev pub IsCutNow : Reader → Type 0
 IsCutNow reader = (record_at (reader_left reader) ≡ Err HeaderCut) ⊎ (record_at (reader_left reader) ≡ Err BodyCut)
 
--- behind so many octets of an input the reader was fed the n octets that come next, and took no record
+-- after the first octets of an input the reader was fed the n octets that come next, and took no record
 pub record FeedsNext (content : Option (List ℕ)) (at : ℕ) (old : Reader) (n : ℕ) (new : Reader) : Type 0 where
   pub piece : List ℕ
   pub size : length piece ≡ n

@@ -54,7 +54,7 @@ has_node p (q ∷ qs) = same_bits p q || has_node p qs
 abbrev pub AreMadeTo : List Bool → List (List Bool) → List (List Bool) → Type 0
 AreMadeTo p old new = (q : List Bool) → has_node q new ≡ true → (has_node q old ≡ true) ⊎ (begins q p ≡ true)
 
--- an entry can be set where there is a node, and taken away everywhere
+-- an entry can be set if there is a node, and taken away everywhere
 abbrev pub CanEdit : List Bool → Option ℕ → List (List Bool) → Type 0
 CanEdit p None nodes = Unit {0}
 CanEdit p (Some h) nodes = has_node p nodes ≡ true

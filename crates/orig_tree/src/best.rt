@@ -29,7 +29,7 @@ pub(crate) struct Change {
     pub(crate) best: Best,
 }
 
-/// What places are to keep, each change after those before it, and where the memory for more is from.
+/// What places are to keep, each change after those before it, and the allocator that gives more.
 #[derive(Drop)]
 pub(crate) struct Plan {
     pub(crate) alloc: Global,

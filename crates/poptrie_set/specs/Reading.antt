@@ -10,7 +10,7 @@ use Rattle.poptrie_build.specs.declared.node.Node.{Node}
 use Rattle.poptrie_set.specs.declared.reading.At.{At}
 use Rattle.poptrie_set.specs.declared.reading.At.TheVariants as at
 
--- the bits of an address that a node of this stride is asked with: those after the direct ones and so many strides
+-- the bits of an address that a node of this stride is asked with: those after the direct ones and n strides
 abbrev pub bits_after : ℕ → ℕ → Addr → List Bool
 bits_after s stride a = drop (s + 6 * stride) (addr_as a).bits
 

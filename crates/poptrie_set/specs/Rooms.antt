@@ -28,6 +28,6 @@ quiet_room s retired = record { space = s; taken = []; replaced = []; retired = 
 abbrev pub safe : {T : Type 0} → Room T → ℕ → ℕ → ℕ → Bool
 safe r made since i = is_out r.space.free i && not (among (blocks_of (early since r.retired)) i) && not (nat_eq made 0 && among r.taken i)
 
--- so many places are neither free nor in a block that the update took or a retired one
+-- n places are neither free nor in a block that the update took or a retired one
 abbrev pub IsRest : {T : Type 0} → ℕ → Space T → Held → Type 0
 IsRest n s h = count_free s + (places_of (h.taken ++ blocks_of h.retired) + n) ≡ 2 ^ s.order

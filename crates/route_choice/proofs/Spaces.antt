@@ -20,8 +20,8 @@ use Rattle.adj_rib_in.specs.Flat.{IsSlotOf, HasNoKey, Grows, flat_paths}
 use Rattle.adj_rib_in.proofs.Flats.{slot_stays}
 use Rattle.route_choice.specs.declared.plan.Plan.{Plan}
 use Rattle.route_choice.specs.Paths.{key_in}
-use Rattle.route_choice.specs.Kept.{PathsAreKept, KeepsBeside, holds_key, holds_rank}
-use Rattle.route_choice.specs.Space.{over_of, planned_elem, HasPlace, HasHopNumber, HasSpace}
+use Rattle.route_choice.specs.Kept.{KeepsBeside, holds_key, holds_rank}
+use Rattle.route_choice.specs.Space.{planned_elem, HasPlace, HasHopNumber, HasSpace}
 
 no_key_stays : (b n : Flat) (t : PathKey) → flat_paths n ≡ flat_paths b → HasNoKey b t → HasNoKey n t
 no_key_stays b n t e h = ap (lookup (is_at (key_cmp t))) e ∙ h
@@ -77,7 +77,3 @@ none_planned room e h i = let x : None ≡ Some e = ap (option_map planned_elem)
 -- a step of base and maps that changes no offer
 pub apart_both : (xs new ys after : Paths) → new ≡ xs → SameOffers ys after → ShareNoKey xs ys → ShareNoKey new after
 apart_both xs new ys after e h a = apart_same new ys after h (under_apart xs new ys e a)
-
--- what is kept beside an earlier plan's room, once that is given back
-pub kept_after : (paths more less : Paths) (ranks left kept : List Rank) (room : Option Plan) (e p q : Option Elem) → PathsAreKept paths ranks None (over_of room) → KeepsBeside paths ranks more left q → e ≡ over_of room → p ≡ q → (PathsAreKept more left e p → PathsAreKept less kept None p) → PathsAreKept less kept None q
-kept_after paths more less ranks left kept room e p q k beside d f back = subst (PathsAreKept less kept None) f (back (subst (λ x. PathsAreKept more left x p) (sym d) (subst (PathsAreKept more left (over_of room)) (sym f) (beside (over_of room) k))))
