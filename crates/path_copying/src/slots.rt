@@ -57,8 +57,7 @@ pub fn copy_slots<R: Region>(
     ensures replaces { OnOk result (ReplacesWords arenas.old.nodes arenas.old.node_blocks
         arenas.old.leaves arenas.old.leaf_blocks (stored stores.old.items words.now)
         arenas.new.nodes arenas.new.node_blocks arenas.new.leaves arenas.new.leaf_blocks (stored
-        stores.new.items words.now) first depth (R.bits region.now - depth) (R.answers region.now))
-        }
+        stores.new.items words.now) first depth (R.bits region.now - depth) (R.answers region.now)) }
     ensures kept { OnOk result (KeepsSlots arenas.old.nodes arenas.old.leaves words.now
         stores.old.items stores.new.items first depth (R.bits region.now - depth) (R.answers
         region.now)) }
