@@ -12,8 +12,8 @@ use std::alloc::{AllocError, Global};
 struct Case {
     every: u32,
     fewest: bool,
-    load: &'static [(Net, u8)],
-    event: (Net, Option<u8>),
+    load: &'static [(Net, u16)],
+    event: (Net, Option<u16>),
     changes: &'static [Move],
     moves: Option<u64>,
 }
@@ -23,9 +23,9 @@ const SECOND: Net = (0x4000_0000, 2);
 const FOURTH: Net = (0xc000_0000, 2);
 
 /// The second and the fourth quarter have another hop than the rest.
-const QUARTERS: &[(Net, u8)] = &[(WHOLE, 1), (SECOND, 2), (FOURTH, 2)];
+const QUARTERS: &[(Net, u16)] = &[(WHOLE, 1), (SECOND, 2), (FOURTH, 2)];
 
-const HALVES: &[(Net, u8)] = &[(WHOLE, 1), (LOWER, 2), (UPPER, 2)];
+const HALVES: &[(Net, u16)] = &[(WHOLE, 1), (LOWER, 2), (UPPER, 2)];
 
 const CASES: [(&str, Case); 6] = [
     (
@@ -102,13 +102,18 @@ const CASES: [(&str, Case); 6] = [
     ),
 ];
 
+/// The one peer.
+pub fn peer() -> Peer {
+    Peer {
+        addr: Addr::v4(1),
+        asn: 64_500,
+    }
+}
+
 /// A route of this hop by the one peer, or with none its end.
-fn elem(net: Net, hop: Option<u8>) -> Elem {
+pub fn elem(net: Net, hop: Option<u16>) -> Elem {
     let via = Via {
-        peer: Peer {
-            addr: Addr::v4(1),
-            asn: 64_500,
-        },
+        peer: peer(),
         id: 0,
     };
     match hop {
@@ -118,7 +123,7 @@ fn elem(net: Net, hop: Option<u8>) -> Elem {
 }
 
 /// Loads routes of the one peer.
-fn load(engine: &mut Engine, routes: &[(Net, u8)]) -> Result<(), EngineError>
+pub fn load(engine: &mut Engine, routes: &[(Net, u16)]) -> Result<(), EngineError>
     requires { engine.old.loaded ≡ false }
     ensures loaded { OnOk result (engine.new.loaded ≡ false) }
     ensures events { OnOk result (engine.new.events ≡ engine.old.events) }
@@ -134,7 +139,7 @@ fn loaded(
     alloc: Global,
     every: u32,
     fewest: bool,
-    routes: &[(Net, u8)],
+    routes: &[(Net, u16)],
 ) -> Result<Engine, EngineError>
     ensures loaded { IfOk result (λ e. e.loaded ≡ true) }
     ensures events { IfOk result (λ e. e.events ≡ 0) }

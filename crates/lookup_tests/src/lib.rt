@@ -1,4 +1,4 @@
-//! What arenas, tries and their lookups offer, tested: of their own, since a crate with tests is proved twice.
+//! What arenas, tries, their lookups and a router offer, tested: of their own, since a crate with tests is proved twice.
 #![tactic(auto)]
 
 #[cfg(test)]
@@ -19,6 +19,8 @@ mod keep;
 mod live;
 #[cfg(test)]
 mod pairs;
+#[cfg(test)]
+mod router;
 #[cfg(test)]
 mod steps;
 #[cfg(test)]
