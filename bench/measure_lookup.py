@@ -6,10 +6,11 @@ Usage:  measure_lookup.py PROGRAM LOOKUP_COUNT [--ipv4 N] [--ipv6 N] [--count N]
 PROGRAM is the built fib, LOOKUP_COUNT the built crates/lookup_count/out/lookup_count. Makes the table
 of one peer that make_large.py makes, has PROGRAM print its routes, and builds bench/lookup_poptrie.c
 with cc. For each family and number of direct bits both programs draw the same addresses and look each
-of them up: by itself, and changed by the answer before it, for which the look-up has to wait. A look-up
-is what a run with the rounds takes more than one without them, over all look-ups, of the least
-processor times of so many turns: so it may run beside other work. Prints nanoseconds a look-up of
-both programs, how many times C's ours are, and what the trie takes. Ends with status 1 where the
+of them up: by itself, and changed by the answer before it, for which the look-up has to wait; ours does so
+in the tries of an engine and in the live tries of a router. A look-up is what a run with the rounds takes
+more than one without them, over all look-ups, of the least processor times of so many turns: so it may run
+beside other work. Prints nanoseconds a look-up of both programs, how many times C's ours are, nanoseconds of
+the router's, and what the trie takes. Ends with status 1 where the
 programs' tries differ, in what they need or in how many nodes are visited. No time is judged.
 """
 
@@ -49,15 +50,16 @@ def run(words, out):
 class Looked:
     """A program at a table, a family and a number of direct bits."""
 
-    def __init__(self, program, table, family, given, direct):
+    def __init__(self, program, table, family, given, direct, last=()):
         self.words = [program, table, str(family), str(given.count)]
         self.direct = str(direct)
+        self.last = last
         self.best = {}
 
     def turn(self, way, rounds, out):
         """One run; the rows of it."""
         apart, chained = WAYS[way]
-        words = [*self.words, str(apart * rounds), str(chained * rounds), self.direct]
+        words = [*self.words, str(apart * rounds), str(chained * rounds), self.direct, *self.last]
         rows, seconds = run(words, out)
         key = way if rounds else "none"
         self.best[key] = min(seconds, self.best.get(key, seconds))
@@ -67,14 +69,16 @@ class Looked:
         return (self.best[way] - self.best["none"]) / (given.rounds * given.count) * 1e9
 
 
-def compare(ours, plain, family, given, out):
-    """What ours and the plain program took, in turns: the row of the table."""
+def compare(ours, router, plain, family, given, out):
+    """What ours, the router and the plain program took, in turns: the row of the table."""
     for _ in range(given.turns):
-        for looked in (ours, plain):
+        for looked in (ours, router, plain):
             looked.turn("apart", 0, out)
             for way in WAYS:
                 looked.turn(way, given.rounds, out)
     told, plainly = ours.turn("apart", 1, out), plain.turn("apart", 0, out)
+    if router.turn("apart", 1, out) != told:
+        sys.exit("the router's look-ups differ")
     at = 0 if family == 4 else 1
     nodes, leaves, visits = told["nodes"][at], told["leaves"][at], told["apart"][0]
     if [[nodes], [leaves], [visits]] != [plainly[kind] for kind in ("nodes", "leaves", "visits")]:
@@ -82,7 +86,8 @@ def compare(ours, plain, family, given, out):
     columns = []
     for way in WAYS:
         taken, plain_taken = ours.nanoseconds(way, given), plain.nanoseconds(way, given)
-        columns += ["%.1f" % taken, "%.1f" % plain_taken, "%.2f" % (taken / plain_taken)]
+        columns += ["%.1f" % taken, "%.1f" % plain_taken, "%.2f" % (taken / plain_taken),
+                    "%.1f" % router.nanoseconds(way, given)]
     words = 1 << int(ours.direct)
     octets = nodes * NODE + leaves * LEAF + words * WORD
     return ["IPv%d" % family, ours.direct, *columns, str(nodes), str(leaves), str(words), "%.1f" % (octets / MIB),
@@ -105,11 +110,12 @@ def main():
         if run_rows != 0:
             sys.exit("%s run ended with %d" % (program, run_rows))
         plain = built(folder)
-        print("| Family | direct bits | apart, ns | in C | times | chained, ns | in C | times | nodes | leaves | words | MiB "
-              "| visits |\n" + "|---" * 13 + "|", flush=True)
+        print("| Family | direct bits | apart, ns | in C | times | router | chained, ns | in C | times | router | nodes | leaves "
+              "| words | MiB | visits |\n" + "|---" * 15 + "|", flush=True)
         for family in (4, 6):
             for direct in given.direct:
                 columns = compare(Looked(lookup_count, dump, family, given, direct),
+                                  Looked(lookup_count, dump, family, given, direct, ["router"]),
                                   Looked(plain, rows, family, given, direct), family, given, out)
                 print("| %s |" % " | ".join(columns), flush=True)
 

@@ -1,11 +1,11 @@
 //! A dump's routes, in an engine whose load has ended.
 
-ghost use Rattle.std.specs.Prelude.{◌≡◌, ◌<◌, length, IfOk, OnOk, true, false};
+ghost use Rattle.std.specs.Prelude.{◌≡◌, IfOk, OnOk, true, false};
 
 use fib_engine::{Engine, Limits, Sizes};
-use fib_io::{Inputs, piece_room, read_piece};
+use fib_io::Inputs;
 use fib_prefix::Event;
-use mrt_read::Reader;
+use mrt_read::InputReader;
 use std::alloc::Global;
 
 /// Loads what an event says.
@@ -30,35 +30,6 @@ fn load_events(engine: &mut Engine, events: &[Event]) -> anyhow::Result<()>
     Ok(())
 }
 
-/// Loads what an input's records say, through this room.
-fn load_through<I: Inputs>(
-    alloc: Global,
-    inputs: &mut I,
-    name: &str,
-    engine: &mut Engine,
-    room: &mut [u8],
-) -> anyhow::Result<()>
-    requires some { 0 < length room.old }
-    requires loading { engine.old.loaded ≡ false }
-    ensures loading { OnOk result (engine.new.loaded ≡ false) }
-{
-    let mut reader = Reader::new(alloc);
-    let mut more = Vec::new(alloc);
-    let mut at = 0;
-    loop {
-        let n = read_piece(inputs, name, at, room)?;
-        if n == 0 {
-            reader.finish()?;
-            return Ok(());
-        }
-        reader.feed(&room[..n])?;
-        at += n as u64;
-        while reader.read_events(&mut more)? {
-            load_events(engine, &more)?;
-        }
-    }
-}
-
 /// Loads a dump to its end.
 fn load_all<I: Inputs>(
     alloc: Global,
@@ -69,8 +40,11 @@ fn load_all<I: Inputs>(
     requires { engine.old.loaded ≡ false }
     ensures { OnOk result (engine.new.loaded ≡ true) }
 {
-    let mut room = piece_room(alloc)?;
-    load_through(alloc, inputs, name, engine, &mut room)?;
+    let mut reader = InputReader::new(alloc)?;
+    let mut more = Vec::new(alloc);
+    while reader.read_events(inputs, name, &mut more)? {
+        load_events(engine, &more)?;
+    }
     engine.finish_load()?;
     Ok(())
 }

@@ -1,14 +1,33 @@
 //! The lookups.
 
-ghost use Rattle.std.specs.Prelude.{◌≡◌};
+ghost use Rattle.std.specs.Prelude.{◌≡◌, true};
 
 use crate::key::Key;
 use fib_addr::Steps;
 use fib_engine::{Engine, Found, Tries};
-use fib_prefix::Hop;
-use std::alloc::AllocError;
+use fib_prefix::{Addr, Hop};
+use fib_router::Router;
+use std::alloc::{AllocError, Global};
 use std::marker::Brand;
 use std::sync::ledger::{Blank, Ledger};
+
+/// Where addresses are looked up.
+pub trait Lookups {
+    /// The hop of an address, and how many nodes were visited for it.
+    fn find<L: Ledger>(&self, addr: &Addr, steps: &mut Steps<L>) -> Found;
+}
+
+impl<'a> Lookups for Tries<'a> {
+    fn find<L: Ledger>(&self, addr: &Addr, steps: &mut Steps<L>) -> Found {
+        self.lookup(addr, steps)
+    }
+}
+
+impl Lookups for Router {
+    fn find<L: Ledger>(&self, addr: &Addr, steps: &mut Steps<L>) -> Found {
+        self.lookup(addr, steps)
+    }
+}
 
 /// How often all addresses are looked up, in each way.
 #[derive(Clone, Copy, Debug, PartialEq, Eq)]
@@ -47,8 +66,8 @@ impl Told {
 
 /// Looks each address up by itself, once a round.
 #[inline(never)]
-fn look_apart<K: Key, L: Ledger>(
-    tries: &Tries,
+fn look_apart<K: Key, T: Lookups, L: Ledger>(
+    tries: &T,
     keys: &[K],
     rounds: u64,
     steps: &mut Steps<L>,
@@ -56,7 +75,7 @@ fn look_apart<K: Key, L: Ledger>(
     let mut told = Told { visits: 0, hops: 0 };
     for _ in 0..rounds {
         for key in keys {
-            told.add(tries.lookup(&key.addr(), steps));
+            told.add(tries.find(&key.addr(), steps));
         }
     }
     told
@@ -64,8 +83,8 @@ fn look_apart<K: Key, L: Ledger>(
 
 /// Looks each address up, changed by the answer before it, once a round.
 #[inline(never)]
-fn look_chained<K: Key, L: Ledger>(
-    tries: &Tries,
+fn look_chained<K: Key, T: Lookups, L: Ledger>(
+    tries: &T,
     keys: &[K],
     rounds: u64,
     steps: &mut Steps<L>,
@@ -74,7 +93,7 @@ fn look_chained<K: Key, L: Ledger>(
     let mut last = Hop::NONE;
     for _ in 0..rounds {
         for key in keys {
-            let found = tries.lookup(&key.changed_by(last).addr(), steps);
+            let found = tries.find(&key.changed_by(last).addr(), steps);
             last = found.hop;
             told.add(found);
         }
@@ -82,9 +101,9 @@ fn look_chained<K: Key, L: Ledger>(
     told
 }
 
-/// Looks addresses up in both ways.
-fn look_through<K: Key, L: Ledger>(
-    tries: &Tries,
+/// Looks addresses up in both ways, and counts the steps.
+fn look_through<K: Key, T: Lookups, L: Ledger>(
+    tries: &T,
     keys: &[K],
     rounds: &Rounds,
     blank: Blank,
@@ -98,8 +117,26 @@ fn look_through<K: Key, L: Ledger>(
     Looked { apart, chained }
 }
 
-/// Looks addresses up in the tries of an engine's routes, in both ways.
-pub fn look_up<K: Key>(engine: &Engine, keys: &[K], rounds: &Rounds) -> Result<Looked, AllocError> {
-    let tries = engine.tries()?;
-    Ok(look_through::<K, Brand>(&tries, keys, rounds, Blank::new(1)))
+/// Looks addresses up in both ways.
+pub fn look_up<K: Key, T: Lookups>(tries: &T, keys: &[K], rounds: &Rounds) -> Looked {
+    look_through::<K, T, Brand>(tries, keys, rounds, Blank::new(1))
+}
+
+/// Looks addresses up in both ways in the live tries of a router over an engine.
+///
+/// # Errors
+///
+/// No memory.
+pub fn look_up_routed<K: Key>(
+    alloc: Global,
+    engine: Engine,
+    keys: &[K],
+    rounds: &Rounds,
+) -> Result<Looked, AllocError>
+    requires { engine.loaded ≡ true }
+{
+    let router = Router::new(alloc, engine)?;
+    let looked = look_up(&router, keys, rounds);
+    drop(router);
+    Ok(looked)
 }

@@ -1,10 +1,13 @@
 //! Lookups by the Poptries of a dump's routes: the lookup by itself, to be measured.
 //!
-//! `lookup_count FILE FAMILY COUNT APART CHAINED DIRECT` loads a dump, and builds the tries of its routes with DIRECT direct
-//! bits. It draws COUNT addresses within its routes of IPv4 (4) or IPv6 (6), and looks each of them up APART times by itself and
-//! CHAINED times changed by the answer before it. It prints how many places the tries need, and of each way how many nodes the
-//! lookups visited and the sum of the numbers of their hops. What a round takes is the difference of two runs.
+//! `lookup_count FILE FAMILY COUNT APART CHAINED DIRECT [router]` loads a dump, and builds the tries of its routes with DIRECT
+//! direct bits. It draws COUNT addresses within its routes of IPv4 (4) or IPv6 (6), and looks each of them up APART times by itself
+//! and CHAINED times changed by the answer before it; with the word `router` in the live tries of a router. It prints how many places
+//! the tries need, and of each way how many nodes the lookups visited and the sum of the numbers of their hops. What a round takes is
+//! the difference of two runs.
 #![tactic(auto)]
+
+ghost use Rattle.std.specs.Prelude.{◌≡◌, true};
 
 mod draw;
 mod key;
@@ -17,7 +20,7 @@ use fib_io::{FileInputs, Inputs};
 use fib_prefix::Family;
 use key::Key;
 use load::load;
-use look::{Looked, Rounds, look_up};
+use look::{Looked, Rounds, look_up, look_up_routed};
 use std::alloc::Global;
 use std::env::{self, Args};
 use std::iter::Skip;
@@ -30,6 +33,7 @@ struct Words {
     count: usize,
     rounds: Rounds,
     sizes: Sizes,
+    by_router: bool,
 }
 
 /// What is reported of them.
@@ -46,7 +50,7 @@ type Rest = Skip<Args>;
 fn word(words: &mut Rest) -> anyhow::Result<String> {
     match words.next() {
         Some(word) => Ok(word),
-        None => anyhow::bail!("usage: lookup_count FILE 4|6 COUNT APART CHAINED DIRECT"),
+        None => anyhow::bail!("usage: lookup_count FILE 4|6 COUNT APART CHAINED DIRECT [router]"),
     }
 }
 
@@ -94,33 +98,59 @@ fn read_words(rt: &HostRuntime) -> anyhow::Result<Words> {
     let count = number(&mut words)?;
     let rounds = rounds(&mut words)?;
     let sizes = sizes(&mut words)?;
+    let by_router = words.next().is_some();
     Ok(Words {
         file,
         family,
         count: count as usize,
         rounds,
         sizes,
+        by_router,
     })
 }
 
-/// Draws addresses within an engine's routes and looks them up.
-fn look_up_drawn<K: Key>(alloc: Global, engine: &Engine, words: &Words) -> anyhow::Result<Looked> {
+/// Addresses that are drawn within an engine's routes.
+fn drawn<K: Key>(alloc: Global, engine: &Engine, words: &Words) -> anyhow::Result<Vec<K>> {
     let routes = engine.routes()?;
-    let keys = draw_keys::<K>(alloc, &routes, words.family, words.count)?;
-    Ok(look_up(engine, &keys, &words.rounds)?)
+    draw_keys::<K>(alloc, &routes, words.family, words.count)
+}
+
+/// Draws addresses within an engine's routes and looks them up in tries of these.
+fn measure_tries<K: Key>(alloc: Global, engine: &Engine, words: &Words) -> anyhow::Result<Looked> {
+    let keys = drawn::<K>(alloc, engine, words)?;
+    let tries = engine.tries()?;
+    Ok(look_up(&tries, &keys, &words.rounds))
+}
+
+/// Draws addresses within an engine's routes and looks them up in the live tries of a router.
+fn measure_router<K: Key>(alloc: Global, engine: Engine, words: &Words) -> anyhow::Result<Looked>
+    requires { engine.loaded ≡ true }
+{
+    let keys = drawn::<K>(alloc, &engine, words)?;
+    Ok(look_up_routed(alloc, engine, &keys, &words.rounds)?)
+}
+
+/// Looks addresses up as the words say.
+fn measure_drawn<K: Key>(alloc: Global, engine: Engine, words: &Words) -> anyhow::Result<Looked>
+    requires { engine.loaded ≡ true }
+{
+    if words.by_router {
+        return measure_router::<K>(alloc, engine, words);
+    }
+    let looked = measure_tries::<K>(alloc, &engine, words);
+    drop(engine);
+    looked
 }
 
 /// Loads the dump and looks addresses up.
 fn measure<I: Inputs>(alloc: Global, inputs: &mut I, words: &Words) -> anyhow::Result<Figures> {
     let engine = load(alloc, inputs, &words.file, words.sizes)?;
+    let needs = engine.needs();
     let looked = match words.family {
-        Family::V4 => look_up_drawn::<u32>(alloc, &engine, words)?,
-        Family::V6 => look_up_drawn::<u128>(alloc, &engine, words)?,
+        Family::V4 => measure_drawn::<u32>(alloc, engine, words)?,
+        Family::V6 => measure_drawn::<u128>(alloc, engine, words)?,
     };
-    Ok(Figures {
-        needs: engine.needs(),
-        looked,
-    })
+    Ok(Figures { needs, looked })
 }
 
 fn main(rt: HostRuntime) -> anyhow::Result<()> {
