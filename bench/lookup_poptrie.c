@@ -1,9 +1,9 @@
 /* Longest match by a Poptrie in C, with the nodes, the leaves, the direct words and the places of crates/poptrie_build, over the
- * routes of a printed text, to be compared with crates/lookup_count.
+ * routes of a printed text, to be compared with crates/part_count.
  *
  *   lookup_poptrie ROWS 4|6 COUNT APART CHAINED DIRECT
  *
- * draws the COUNT addresses that lookup_count draws, and looks each of them up APART times by itself and CHAINED times with the
+ * draws the COUNT addresses that part_count draws, and looks each of them up APART times by itself and CHAINED times with the
  * answer before put into its lowest bits; it prints how many nodes and leaves the family's trie needs, how many nodes one round of
  * look-ups visits, and the sums of the numbers of the hops. Hops are numbered in the order of the text.
  *
@@ -334,7 +334,7 @@ static inline uint32_t rank(uint64_t vector, int slot)
 FAMILY(v4, uint32_t, 32)
 FAMILY(v6, u128, 128)
 
-/* ---- addresses, drawn as crates/lookup_count draws them */
+/* ---- addresses, drawn as crates/part_count draws them */
 
 static uint64_t state = 1;
 

@@ -1,9 +1,9 @@
 #!/usr/bin/env python3
 """Measures look-ups by the program's Poptries beside those of a Poptrie in C.
 
-Usage:  measure_lookup.py PROGRAM LOOKUP_COUNT [--ipv4 N] [--ipv6 N] [--count N] [--rounds N] [--turns N] [--direct S ..]
+Usage:  measure_lookup.py PROGRAM PART_COUNT [--ipv4 N] [--ipv6 N] [--count N] [--rounds N] [--turns N] [--direct S ..]
 
-PROGRAM is the built fib, LOOKUP_COUNT the built crates/lookup_count/out/lookup_count. Makes the table
+PROGRAM is the built fib, PART_COUNT the built crates/part_count/out/part_count. Makes the table
 of one peer that make_large.py makes, has PROGRAM print its routes, and builds bench/lookup_poptrie.c
 with cc. For each family and number of direct bits both programs draw the same addresses and look each
 of them up: by itself, and changed by the answer before it, for which the look-up has to wait; ours does so
@@ -97,12 +97,12 @@ def compare(ours, router, plain, family, given, out):
 def main():
     parser = argparse.ArgumentParser(description="Measures look-ups beside those of a Poptrie in C.")
     parser.add_argument("program")
-    parser.add_argument("lookup_count")
+    parser.add_argument("part_count")
     for name, default in (("ipv4", 1_000_000), ("ipv6", 220_000), ("count", 1_000_000), ("rounds", 100), ("turns", 5)):
         parser.add_argument("--" + name, type=int, default=default)
     parser.add_argument("--direct", type=int, nargs="+", default=[16, 18])
     given = parser.parse_args()
-    program, lookup_count = os.path.abspath(given.program), os.path.abspath(given.lookup_count)
+    program, part_count = os.path.abspath(given.program), os.path.abspath(given.part_count)
     with tempfile.TemporaryDirectory() as folder:
         dump, rows, out = (os.path.join(folder, name) for name in ("dump.mrt", "rows.txt", "out"))
         make("make_large.py", given.ipv4, given.ipv6, 1, 0, SEED, dump, os.path.join(folder, "updates.mrt"))
@@ -114,8 +114,8 @@ def main():
               "| words | MiB | visits |\n" + "|---" * 15 + "|", flush=True)
         for family in (4, 6):
             for direct in given.direct:
-                columns = compare(Looked(lookup_count, dump, family, given, direct),
-                                  Looked(lookup_count, dump, family, given, direct, ["router"]),
+                columns = compare(Looked(part_count, dump, family, given, direct),
+                                  Looked(part_count, dump, family, given, direct, ["router"]),
                                   Looked(plain, rows, family, given, direct), family, given, out)
                 print("| %s |" % " | ".join(columns), flush=True)
 

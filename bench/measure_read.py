@@ -3,7 +3,7 @@
 
 Usage:  measure_read.py PROGRAM [FILE ..]
 
-PROGRAM is the built crates/read_count/out/read_count, which counts what the records of a file say.
+PROGRAM is the built crates/part_count/out/part_count, which counts what the records of a file say.
 Without files it reads the dump and the updates that make_large.py makes of 1,000,000 IPv4 and
 220,000 IPv6 prefixes of four peers and 200,000 messages. It prints the least processor time of
 five runs, what that is for an event, and the peak of memory. A run that doesn't end with 0, or

@@ -1,12 +1,12 @@
 #!/usr/bin/env python3
 """Measures comparisons of printed texts and checkpoints beside what they are made of.
 
-Usage:  measure_texts.py PROGRAM [--read READ_COUNT]
+Usage:  measure_texts.py PROGRAM [--read PART_COUNT]
 
-PROGRAM is the built fib, READ_COUNT the built crates/read_count/out/read_count. Of 1,000,000 IPv4 and
+PROGRAM is the built fib, PART_COUNT the built crates/part_count/out/part_count. Of 1,000,000 IPv4 and
 220,000 IPv6 prefixes of one peer it prints a text, and times `check` of it and `same` of it with itself,
 of its routes and of its tables. Of the same prefixes of four peers it times `save`, the reading of the
-dump by itself (`read_count`), and the reading of the checkpoint. Each time is the least processor time
+dump by itself (`part_count`), and the reading of the checkpoint. Each time is the least processor time
 of three runs, in turns; beside it the peak of memory. A run that doesn't end as it must ends it with
 status 1. No time and no memory is judged.
 """
@@ -45,7 +45,7 @@ def in_turns(jobs, folder):
 def main():
     parser = argparse.ArgumentParser(description="Measures comparisons of printed texts and checkpoints.")
     parser.add_argument("program")
-    parser.add_argument("--read", help="the built read_count")
+    parser.add_argument("--read", help="the built part_count")
     given = parser.parse_args()
     program = os.path.abspath(given.program)
     with tempfile.TemporaryDirectory() as folder:

@@ -16,7 +16,7 @@ use Rattle.mrt_read.specs.declared.reader.EventsError.TheVariants as read
 use Rattle.mrt_read.specs.Whole.{of_input, of_read}
 use Rattle.mrt_read.specs.declared.whole.WholeError.TheVariants.{Malformed}
 use Rattle.mrt_read.proofs.Arriving.{Comes, all_fed, comes_first, comes_next}
-use Rattle.read_count.specs.Counted.{CountsOctets, IsUncounted}
+use Rattle.part_count.specs.Counted.{CountsOctets, IsUncounted}
 
 -- So many octets of the input were fed, and so many events were counted.
 pub record Counting (content : Option (List ℕ)) (reader : Reader) (at events : ℕ) : Type 0 where

@@ -1,8 +1,8 @@
 use Rattle.std.proofs.Common.{◌≡◌, ◌+◌, ◌-◌, ◌^◌, ◌<◌, ◌≤◌, length}
 use Rattle.mrt_read.proofs.Fed.{IsFed}
 use Rattle.mrt_read.specs.Standing.{ReaderIsUsedUp, reader_left}
-use Rattle.read_count.proofs.Counting.{Counting}
-use Rattle.read_count.proofs.count.count_through.Given as goal
+use Rattle.part_count.proofs.Counting.{Counting}
+use Rattle.part_count.proofs.count.count_through.Given as goal
 
 abbrev pub invariant-loop-more : goal.invariant-loop-more
 invariant-loop-more g l = record {

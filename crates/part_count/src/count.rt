@@ -1,8 +1,8 @@
-//! The counts of an input.
+//! The counts of an input: the reading by itself.
 
 ghost use Rattle.std.specs.Prelude.{◌≡◌, ◌<◌, length, IfErr, IfOk, IfSome};
 ghost use Rattle.mrt_read.specs.Whole.{FaultRose};
-ghost use Rattle.read_count.specs.Counted.{CountsOctets, IsUncounted};
+ghost use Rattle.part_count.specs.Counted.{CountsOctets, IsUncounted};
 
 use fib_io::{Inputs, piece_room, read_piece};
 use mrt_read::{Reader, WholeError};

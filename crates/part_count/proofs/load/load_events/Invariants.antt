@@ -1,5 +1,5 @@
 use Rattle.std.proofs.Common.{◌≡◌, false}
-use Rattle.lookup_count.proofs.load.load_events.Given as goal
+use Rattle.part_count.proofs.load.load_events.Given as goal
 
 abbrev pub invariant-loop-event : goal.invariant-loop-event
 invariant-loop-event l = l.engine.loaded ≡ false

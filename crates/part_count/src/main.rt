@@ -1,19 +1,24 @@
-//! Lookups by the Poptries of a dump's routes: the lookup by itself, to be measured.
+//! Two parts of a run, each by itself, to be measured: reading, and lookups.
 //!
-//! `lookup_count FILE FAMILY COUNT APART CHAINED DIRECT [router]` loads a dump, and builds the tries of its routes with DIRECT
-//! direct bits. It draws COUNT addresses within its routes of IPv4 (4) or IPv6 (6), and looks each of them up APART times by itself
-//! and CHAINED times changed by the answer before it; with the word `router` in the live tries of a router. It prints how many places
-//! the tries need, and of each way how many nodes the lookups visited and the sum of the numbers of their hops. What a round takes is
-//! the difference of two runs.
+//! `part_count FILE` reads a file of records, and prints how many records it has, how many are skipped, how many events they say, and
+//! how many messages are treated as withdrawals. Nothing is chosen among the events, so a lost session is one event.
+//!
+//! `part_count FILE FAMILY COUNT APART CHAINED DIRECT [router]` loads a dump, and builds the tries of its routes with DIRECT direct
+//! bits. It draws COUNT addresses within its routes of IPv4 (4) or IPv6 (6), and looks each of them up APART times by itself and
+//! CHAINED times changed by the answer before it; with the word `router` in the live tries of a router. It prints how many places the
+//! tries need, and of each way how many nodes the lookups visited and the sum of the numbers of their hops. What a round takes is the
+//! difference of two runs.
 #![tactic(auto)]
 
 ghost use Rattle.std.specs.Prelude.{◌≡◌, true};
 
+mod count;
 mod draw;
 mod key;
 mod load;
 mod look;
 
+use count::{Counts, count};
 use draw::draw_keys;
 use fib_engine::{Engine, FamilyNeeds, Sizes};
 use fib_io::{FileInputs, Inputs};
@@ -25,10 +30,9 @@ use std::alloc::Global;
 use std::env::{self, Args};
 use std::iter::Skip;
 
-/// What is measured.
+/// Which lookups are measured.
 #[derive(Drop)]
 struct Words {
-    file: String,
     family: Family,
     count: usize,
     rounds: Rounds,
@@ -50,18 +54,17 @@ type Rest = Skip<Args>;
 fn word(words: &mut Rest) -> anyhow::Result<String> {
     match words.next() {
         Some(word) => Ok(word),
-        None => anyhow::bail!("usage: lookup_count FILE 4|6 COUNT APART CHAINED DIRECT [router]"),
+        None => anyhow::bail!("usage: part_count FILE [4|6 COUNT APART CHAINED DIRECT [router]]"),
     }
 }
 
-/// The next word as a family: 4, or else IPv6.
-fn family(words: &mut Rest) -> anyhow::Result<Family> {
-    let word = word(words)?;
-    Ok(if word.as_str() == "4" {
+/// A word as a family: 4, or else IPv6.
+fn family_of(word: &String) -> Family {
+    if word.as_str() == "4" {
         Family::V4
     } else {
         Family::V6
-    })
+    }
 }
 
 /// The next word as a number.
@@ -90,18 +93,14 @@ fn sizes(words: &mut Rest) -> anyhow::Result<Sizes> {
     })
 }
 
-/// What the command line says.
-fn read_words(rt: &HostRuntime) -> anyhow::Result<Words> {
-    let mut words = env::args(rt)?.skip(1);
-    let file = word(&mut words)?;
-    let family = family(&mut words)?;
-    let count = number(&mut words)?;
-    let rounds = rounds(&mut words)?;
-    let sizes = sizes(&mut words)?;
+/// What the words from the family on say.
+fn read_words(family: &String, words: &mut Rest) -> anyhow::Result<Words> {
+    let count = number(words)?;
+    let rounds = rounds(words)?;
+    let sizes = sizes(words)?;
     let by_router = words.next().is_some();
     Ok(Words {
-        file,
-        family,
+        family: family_of(family),
         count: count as usize,
         rounds,
         sizes,
@@ -143,8 +142,13 @@ fn measure_drawn<K: Key>(alloc: Global, engine: Engine, words: &Words) -> anyhow
 }
 
 /// Loads the dump and looks addresses up.
-fn measure<I: Inputs>(alloc: Global, inputs: &mut I, words: &Words) -> anyhow::Result<Figures> {
-    let engine = load(alloc, inputs, &words.file, words.sizes)?;
+fn measure<I: Inputs>(
+    alloc: Global,
+    inputs: &mut I,
+    file: &str,
+    words: &Words,
+) -> anyhow::Result<Figures> {
+    let engine = load(alloc, inputs, file, words.sizes)?;
     let needs = engine.needs();
     let looked = match words.family {
         Family::V4 => measure_drawn::<u32>(alloc, engine, words)?,
@@ -153,14 +157,35 @@ fn measure<I: Inputs>(alloc: Global, inputs: &mut I, words: &Words) -> anyhow::R
     Ok(Figures { needs, looked })
 }
 
-fn main(rt: HostRuntime) -> anyhow::Result<()> {
-    let alloc = rt.alloc();
-    let words = read_words(&rt)?;
-    let mut inputs = FileInputs::new(alloc, &rt);
-    let Figures { needs, looked } = measure(alloc, &mut inputs, &words)?;
+/// Prints what was counted of an input.
+fn print_counts(rt: &HostRuntime, counts: Counts) -> anyhow::Result<()> {
+    println!(rt; "records,{}", counts.records)?;
+    println!(rt; "skipped,{}", counts.skipped)?;
+    println!(rt; "events,{}", counts.events)?;
+    println!(rt; "treated,{}", counts.treated)?;
+    Ok(())
+}
+
+/// Prints what lookups came to.
+fn print_figures(rt: &HostRuntime, figures: Figures) -> anyhow::Result<()> {
+    let Figures { needs, looked } = figures;
     println!(rt; "nodes,{},{}", needs.v4.nodes, needs.v6.nodes)?;
     println!(rt; "leaves,{},{}", needs.v4.leaves, needs.v6.leaves)?;
     println!(rt; "apart,{},{}", looked.apart.visits, looked.apart.hops)?;
     println!(rt; "chained,{},{}", looked.chained.visits, looked.chained.hops)?;
     Ok(())
+}
+
+fn main(rt: HostRuntime) -> anyhow::Result<()> {
+    let alloc = rt.alloc();
+    let mut words = env::args(&rt)?.skip(1);
+    let file = word(&mut words)?;
+    let mut inputs = FileInputs::new(alloc, &rt);
+    let Some(family) = words.next() else {
+        let counts = count(alloc, &mut inputs, &file)?;
+        return print_counts(&rt, counts);
+    };
+    let words = read_words(&family, &mut words)?;
+    let figures = measure(alloc, &mut inputs, &file, &words)?;
+    print_figures(&rt, figures)
 }

@@ -1,5 +1,5 @@
 use Rattle.std.proofs.Common.{◌≡◌, false}
-use Rattle.lookup_count.proofs.load.load_event.Given as goal
+use Rattle.part_count.proofs.load.load_event.Given as goal
 
 abbrev pub invariant-loop-elem : goal.invariant-loop-elem
 invariant-loop-elem l = l.engine.loaded ≡ false

@@ -6,8 +6,8 @@ use Rattle.fib_prefix.specs.Views.{event_as}
 use Rattle.mrt_read.proofs.Fed.{fed_at_start, fed_more, fed_takes}
 use Rattle.fib_io.specs.Pieces.{ComeNext, IsEnd, IsLarge}
 use Rattle.mrt_read.proofs.Arriving.{told_before}
-use Rattle.read_count.proofs.Counting.{counted_all, counting_feeds, counting_start, counting_takes, refused_end, refused_piece, refused_read, used_at_start}
-use Rattle.read_count.proofs.count.count_through.Goals as goal
+use Rattle.part_count.proofs.Counting.{counted_all, counting_feeds, counting_start, counting_takes, refused_end, refused_piece, refused_read, used_at_start}
+use Rattle.part_count.proofs.count.count_through.Goals as goal
 
 pub loop-more-init : goal.loop-more-init
 loop-more-init g c = record {

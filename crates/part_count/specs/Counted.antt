@@ -6,7 +6,7 @@ use Rattle.mrt_read.specs.Standing.{IsFault}
 use Rattle.wire_model.specs.Input.{Progress, input}
 use Rattle.mrt_read.specs.declared.whole.WholeError.{WholeError}
 use Rattle.mrt_read.specs.declared.whole.WholeError.TheVariants.{Malformed, NoMemory, Fault, TooLarge}
-use Rattle.read_count.specs.declared.count.Counts.{Counts}
+use Rattle.part_count.specs.declared.count.Counts.{Counts}
 
 -- the counts are those of what the octets say; more events than 64 bits count are reported as the greatest number
 pub record CountsOctets (counts : Counts) (octets : List ℕ) : Type 0 where
