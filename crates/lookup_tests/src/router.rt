@@ -1,6 +1,6 @@
 //! A router's events: refused, cancelled, or taken beside lookups.
 
-ghost use Rattle.std.specs.Prelude.{◌≡◌, ◌+◌, ◌<◌, ◌≤◌, ◌^◌, None, false, IfOk, OnOk};
+ghost use Rattle.std.specs.Prelude.{◌≡◌, ◌+◌, ◌<◌, ◌≤◌, ◌^◌, None, true, false, IfOk, OnOk};
 ghost use Rattle.fib_router.specs.Router.{IsBegunIn, begun_elem, stores_left_of};
 
 use crate::engine::{elem, load, peer};
@@ -377,29 +377,50 @@ fn load_crowd(engine: &mut Engine, count: u16) -> Result<(), EngineError>
     Ok(())
 }
 
-/// A router of these sizes that has loaded routes.
-fn loaded(alloc: Global, sizes: (u8, u8, u8), routes: &Routes) -> Result<Router, EngineError>
-    ensures rest { IfOk result (λ r. r.begun ≡ None) }
-    ensures none { IfOk result (λ r. r.held.events ≡ 0) }
+/// Loads routes.
+fn load_routes(engine: &mut Engine, routes: &Routes) -> Result<(), EngineError>
+    requires loading { engine.old.loaded ≡ false }
+    requires none { engine.old.events ≡ 0 }
+    ensures loading { OnOk result (engine.new.loaded ≡ false) }
+    ensures none { OnOk result (engine.new.events ≡ 0) }
+{
+    match routes {
+        Routes::These(routes) => load(engine, routes)?,
+        Routes::Crowd(count) => load_crowd(engine, *count)?,
+    }
+    Ok(())
+}
+
+/// An engine of these sizes that has loaded routes.
+fn loaded_engine(alloc: Global, sizes: (u8, u8, u8), routes: &Routes) -> Result<Engine, EngineError>
+    ensures loaded { IfOk result (λ e. e.loaded ≡ true) }
+    ensures none { IfOk result (λ e. e.events ≡ 0) }
 {
     let (direct, nodes, leaves) = sizes;
+    let sizes = Sizes {
+        direct: direct.min(18),
+        nodes: nodes.min(24),
+        leaves: leaves.min(26),
+    };
     let mut engine = Engine::new(
         alloc,
         Limits {
             every: 0,
             fewest: false,
-            sizes: Sizes {
-                direct: direct.min(18),
-                nodes: nodes.min(26),
-                leaves: leaves.min(26),
-            },
+            sizes,
         },
     );
-    match routes {
-        Routes::These(routes) => load(&mut engine, routes)?,
-        Routes::Crowd(count) => load_crowd(&mut engine, *count)?,
-    }
+    load_routes(&mut engine, routes)?;
     engine.finish_load()?;
+    Ok(engine)
+}
+
+/// A router of these sizes that has loaded routes.
+fn loaded(alloc: Global, sizes: (u8, u8, u8), routes: &Routes) -> Result<Router, EngineError>
+    ensures rest { IfOk result (λ r. r.begun ≡ None) }
+    ensures none { IfOk result (λ r. r.held.events ≡ 0) }
+{
+    let engine = loaded_engine(alloc, sizes, routes)?;
     let router = Router::new(alloc, engine)?;
     Ok(router)
 }
