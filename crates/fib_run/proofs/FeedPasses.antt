@@ -9,8 +9,6 @@ use Rattle.fib_io.specs.Reads as io
 use Rattle.fib_io.proofs.Passing.{makes_as}
 use Rattle.fib_engine.specs.declared.error.EngineError.{EngineError}
 use Rattle.fib_engine.specs.declared.error.EngineError.TheVariants as engine
-use Rattle.mrt_read.specs.declared.reader.EventsError.{EventsError}
-use Rattle.mrt_read.specs.declared.reader.EventsError.TheVariants as read
 use Rattle.route_model.specs.Events.{Event}
 use Rattle.route_tries.specs.declared.sizes.TrieFull as short
 use Rattle.step_script.specs.Machine.{World}
@@ -35,7 +33,7 @@ use Rattle.fib_run.specs.Asking.{ask_of_input, ask_refusal}
 use Rattle.fib_run.specs.Loaded.{of_step}
 use Rattle.fib_due.specs.Passes.{InputsRead, Content, Judge, ReadUpTo, ReadsOf, StopsReading}
 use Rattle.fib_run.specs.Feeds.{EventNumbered, ask_end, asks_end, feed_end, feeds_end}
-use Rattle.fib_run.specs.Standing.{IsOfLoad, StateTakesAll, feed_of_input, feed_of_read, refusal_at, feed_outcome}
+use Rattle.fib_run.specs.Standing.{IsOfLoad, StateTakesAll, feed_of_read, refusal_at, feed_outcome}
 use Rattle.fib_due.specs.Stepped.{arena_of}
 use Rattle.fib_due.specs.Stepping.{refusal_of_whole}
 use Rattle.fib_due.specs.Stops.{input_of}
@@ -82,14 +80,11 @@ feeds_read content Goes before now which name (Err e) s made numbered is =
     let p = err_from_is_err_and s is in
     rw (p.1, p.2) (feeds_stop content Goes before now which name e numbered made)
 
-pub feeds_end_of_input : (error : ReadError) → feeds_end (feed_of_input error) ≡ io.end_by error
-feeds_end_of_input pieces.Fault = refl
-feeds_end_of_input pieces.TooLarge = refl
-feeds_end_of_input pieces.NoMemory = refl
-
-pub feeds_end_of_read : (error : EventsError) → feeds_end (feed_of_read error) ≡ Anywhere
-feeds_end_of_read (read.Malformed malformed) = refl
-feeds_end_of_read read.NoMemory = refl
+pub feeds_end_of_read : (error : WholeError) → feeds_end (feed_of_read error) ≡ whole_input.pass_end_by error
+feeds_end_of_read (whole.Malformed malformed) = refl
+feeds_end_of_read whole.NoMemory = refl
+feeds_end_of_read whole.Fault = refl
+feeds_end_of_read whole.TooLarge = refl
 
 -- elementary events that aren't taken end the pass where they stand
 pub taken_end : (which : MrtInput) (count : ℕ) (events : List Event) (old new : State) (error : FeedError) → StateTakesAll which count events old (Err error) new → feeds_end error ≡ Anywhere
@@ -100,14 +95,11 @@ taken_end which count events old new (feed.Malformed malformed) takes = absurd t
 taken_end which count events old new feed.Fault takes = absurd takes
 taken_end which count events old new feed.TooLarge takes = absurd takes
 
-pub input_numbered : (which : MrtInput) (error : ReadError) → EventNumbered which (feed_of_input error)
-input_numbered which pieces.Fault = tt
-input_numbered which pieces.TooLarge = tt
-input_numbered which pieces.NoMemory = tt
-
-pub read_numbered : (which : MrtInput) (error : EventsError) → EventNumbered which (feed_of_read error)
-read_numbered which (read.Malformed malformed) = tt
-read_numbered which read.NoMemory = tt
+pub read_numbered : (which : MrtInput) (error : WholeError) → EventNumbered which (feed_of_read error)
+read_numbered which (whole.Malformed malformed) = tt
+read_numbered which whole.NoMemory = tt
+read_numbered which whole.Fault = tt
+read_numbered which whole.TooLarge = tt
 
 pub load_numbered : {X : Type 0} (which : MrtInput) (event : ℕ) (error : EngineError) (r : FeedError) → r ≡ refusal_at event error → 1 ≤ event → ((t : short.TrieFull) → IsErrOf {T = X} (Err error) (engine.TrieFull t) → ⊥) → EventNumbered which r
 load_numbered which event engine.HopsFull r e first fits = rw e first

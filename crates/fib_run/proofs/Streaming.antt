@@ -21,8 +21,6 @@ use Rattle.wire_model.proofs.More.{starts_so, feeds_on, takes_on, ends_cut}
 use Rattle.wire_model.specs.Input.{Progress, start, input}
 use Rattle.wire_model.proofs.Reading.{reading_ends, reading_ends_cut}
 use Rattle.fib_io.specs.Pieces.{octets_read, octets_from, ComeNext, IsEnd, IsLarge}
-use Rattle.fib_io.specs.declared.pieces.ReadError.{ReadError}
-use Rattle.fib_io.specs.declared.pieces.ReadError.TheVariants as pieces
 use Rattle.mrt_read.specs.Records.{fault_of}
 use Rattle.mrt_read.specs.declared.framer.Malformed as code_malformed
 use Rattle.mrt_read.specs.Standing as reading
@@ -32,6 +30,11 @@ use Rattle.mrt_read.specs.declared.reader.EventsError.TheVariants as read
 use Rattle.mrt_read.specs.Cuts.{cut_at, is_cut, is_small}
 use Rattle.mrt_read.proofs.Arriving.{Comes, all_fed, comes_first, comes_next, such_before}
 use Rattle.mrt_read.proofs.Gathering.{goes_on}
+use Rattle.mrt_read.proofs.Nexts.{as_piece}
+use Rattle.mrt_read.specs.InputReading.{FeedsUpTo, IsNextRefused, TakesNext}
+use Rattle.mrt_read.specs.Whole.{of_read}
+use Rattle.mrt_read.specs.declared.whole.WholeError.{WholeError}
+use Rattle.mrt_read.specs.declared.whole.WholeError.TheVariants as whole
 use Rattle.mrt_read.proofs.Cutting.{IsCutNow, cut_rules, ends_here, goes_past, not_cut, reads_on, uncut}
 use Rattle.fib_due.specs.declared.outcome.MrtInput.{MrtInput}
 use Rattle.fib_due.specs.declared.outcome.Outcome.TheVariants as outcome
@@ -43,7 +46,7 @@ use Rattle.fib_due.specs.Stops.{Refused, FailsDue, IsDueIfTold, input_of}
 use Rattle.fib_due.specs.Refusals.{Limits, stop_at, too_much}
 use Rattle.fib_due.specs.Due.{elems_in, feed_in, feed_of, read_part}
 use Rattle.fib_due.specs.InTime.{FeedMayGoOn}
-use Rattle.fib_run.specs.Standing.{StateStands, StateHas, StateBrings, StateTakesAll, next_elems, feed_of_input, feed_of_read, feed_outcome}
+use Rattle.fib_run.specs.Standing.{StateStands, StateHas, StateBrings, StateTakesAll, next_elems, feed_of_read, feed_outcome}
 use Rattle.fib_run.proofs.Counting.{Counting, counting_end, counting_feeds, counting_fits, counting_next, counting_start, counting_still}
 use Rattle.fib_run.proofs.Feeding.{Going, due_of, going_start, going_next, going_still, going_feeds, refused_hops, refused_is, brought_is, fault_due, whole_due, past_due, cut_due}
 
@@ -153,7 +156,7 @@ read_fault vrps which limits before c fed rest old new state events taken malfor
     let cut : is_cut (octets_read c) g.read.records ≡ false = rw (e, g.stands.records) (uncut fed rest old taken (fault_of malformed) t n none next) in
     fault_due vrps which limits before c g.read malformed state g.held no.0 (ap input e ∙ no.1.whatever rest) (not_cut (is_small c) (is_cut (octets_read c) g.read.records) cut)
 
-pub refused_read : {rows : List (Announced × Vrp)} (vrps : List Vrp) (which : MrtInput) (limits : Limits) (before : List Elem) (content : Option (List ℕ)) (first : State) (old new : Reader) (state : State) (at events : ℕ) (more : List Event) (error : EventsError) → StateStands which limits before [] first → Streaming vrps which content first old state at events rows → reading.ReaderFills (Err error) more (reading.reader_next old) → reading.ReaderFilled old (Err error) more new → FailsDue (feed_outcome which (feed_of_read error)) (due_of limits.sizes vrps which before content)
+pub refused_read : {rows : List (Announced × Vrp)} (vrps : List Vrp) (which : MrtInput) (limits : Limits) (before : List Elem) (content : Option (List ℕ)) (first : State) (old new : Reader) (state : State) (at events : ℕ) (more : List Event) (error : EventsError) → StateStands which limits before [] first → Streaming vrps which content first old state at events rows → reading.ReaderFills (Err error) more (reading.reader_next old) → reading.ReaderFilled old (Err error) more new → FailsDue (feed_outcome which (feed_of_read (of_read error))) (due_of limits.sizes vrps which before content)
 refused_read vrps which limits before None first old new state at events more (read.Malformed malformed) stands s next t = tt
 refused_read vrps which limits before (Some c) first old new state at events more (read.Malformed malformed) stands s next t =
     refused_is (feed_of limits.sizes vrps which before c) (outcome.Malformed (input_of which) malformed.number (rule_number malformed.rule)) (read_fault vrps which limits before c s.fed (octets_from at c) old new state events s.taken malformed s.comes (s.going limits before stands) s.frames s.numbered s.none next t)
@@ -235,8 +238,46 @@ refused_large vrps which limits before None first reader state at events large s
 refused_large vrps which limits before (Some c) first reader state at events large stands s cut =
     refused_is (feed_of limits.sizes vrps which before c) (outcome.TooLarge (input_of which)) (large_due vrps which limits before c s.fed reader state events s.taken (all_fed c s.fed at large.0 s.comes) (lt-leb (length c) (2 ^ 36) large.1) (s.going limits before stands) s.frames s.numbered s.none cut)
 
-pub refused_piece : {rows : List (Announced × Vrp)} (vrps : List Vrp) (which : MrtInput) (limits : Limits) (before : List Elem) (content : Option (List ℕ)) (first : State) (reader : Reader) (state : State) (at events : ℕ) (error : ReadError) → (IsErrOf {T = ℕ} (Err error) pieces.TooLarge → IfSome content (λ c. IsLarge c at)) → StateStands which limits before [] first → Streaming vrps which content first reader state at events rows → IsCutNow reader
-    → FailsDue (feed_outcome which (feed_of_input error)) (due_of limits.sizes vrps which before content)
-refused_piece vrps which limits before content first reader state at events pieces.Fault large stands s cut = tt
-refused_piece vrps which limits before content first reader state at events pieces.NoMemory large stands s cut = tt
-refused_piece vrps which limits before content first reader state at events pieces.TooLarge large stands s cut = refused_large vrps which limits before content first reader state at events (large refl) stands s cut
+-- ---- a record after another, as a reader of the input gives them
+
+pub streaming_fed : {rows : List (Announced × Vrp)} (vrps : List Vrp) (which : MrtInput) (content : Option (List ℕ)) (first : State) (old new : Reader) (state : State) (at to events : ℕ) → FeedsUpTo content at old to new → Streaming vrps which content first old state at events rows → Streaming vrps which content first new state to events rows
+streaming_fed {rows = rows} vrps which content first old new state at to events fed s =
+    let p = as_piece content at to old new fed in
+    subst (λ (k : ℕ). Streaming vrps which content first new state k events rows) p.there (streaming_feeds vrps which content first old new state p.room at p.n events p.most p.comes s p.feeds)
+
+pub next_fits : {rows : List (Announced × Vrp)} (vrps : List Vrp) (which : MrtInput) (content : Option (List ℕ)) (first : State) (old new : Reader) (mid : State) (at to events : ℕ) (more left : List Event) → left ≡ left_of vrps more → length first.engine.candidates ≤ 2 ^ 40 → to ≤ 2 ^ 36 → Streaming vrps which content first old mid at events rows → TakesNext content at old more to new → CountsFit mid.engine.candidates left events
+next_fits vrps which content first old new mid at to events more left is few within s (fed, feeds, takes) = judged_fits vrps which content first fed new mid to events more left is few within (streaming_fed vrps which content first old fed mid at to events feeds s) takes
+
+pub next_takes : {rows now : List (Announced × Vrp)} (vrps : List Vrp) (which : MrtInput) (content : Option (List ℕ)) (first : State) (old new : Reader) (mid state : State) (at to events n : ℕ) (more left : List Event) → left ≡ left_of vrps more → now ≡ rows ++ invalid_in vrps more → Streaming vrps which content first old mid at events rows → TakesNext content at old more to new → CountsOn mid.engine.candidates left events n state.engine.candidates
+    → ((limits : Limits) (before done : List Elem) → events ≡ length done → StateStands which limits before done mid → (n ≡ length (done ++ next_elems before done left)) × StateStands which limits before (done ++ next_elems before done left) state)
+    → Streaming vrps which content first new state to n now
+next_takes vrps which content first old new mid state at to events n more left is grown s (fed, feeds, takes) counts took =
+    judged_takes vrps which content first fed new mid state to events n more left is grown (streaming_fed vrps which content first old fed mid at to events feeds s) takes counts took
+
+pub next_event : {rows : List (Announced × Vrp)} (vrps : List Vrp) (which : MrtInput) (limits : Limits) (before : List Elem) (content : Option (List ℕ)) (first : State) (old new : Reader) (mid state : State) (at to events : ℕ) (more left : List Event) (error : FeedError) → left ≡ left_of vrps more → StateStands which limits before [] first → Streaming vrps which content first old mid at events rows → TakesNext content at old more to new
+    → StateTakesAll which events left mid (Err error) state → FailsDue (feed_outcome which error) (due_of limits.sizes vrps which before content)
+next_event vrps which limits before content first old new mid state at to events more left error is stands s (fed, feeds, takes) refused =
+    judged_event vrps which limits before content first fed new mid state to events more left error is stands (streaming_fed vrps which content first old fed mid at to events feeds s) takes refused
+
+pub next_refused : {rows : List (Announced × Vrp)} (vrps : List Vrp) (which : MrtInput) (limits : Limits) (before : List Elem) (content : Option (List ℕ)) (first : State) (old new : Reader) (state : State) (at events : ℕ) (error : WholeError) → StateStands which limits before [] first → Streaming vrps which content first old state at events rows → IsNextRefused content at old error new → FailsDue (feed_outcome which (feed_of_read error)) (due_of limits.sizes vrps which before content)
+next_refused vrps which limits before content first old new state at events (whole.Malformed malformed) stands s (to, fed, feeds, inl (next, refuses)) =
+    refused_read vrps which limits before content first fed new state to events [] (read.Malformed malformed) stands (streaming_fed vrps which content first old fed state at to events feeds s) next refuses
+next_refused vrps which limits before content first old new state at events (whole.Malformed malformed) stands s (to, fed, feeds, inr (end, tells)) =
+    refused_end vrps which limits before content first fed state to events malformed end stands (streaming_fed vrps which content first old fed state at to events feeds s) tells
+next_refused vrps which limits before content first old new state at events whole.TooLarge stands s (to, fed, feeds, cut, large) =
+    refused_large vrps which limits before content first fed state to events large stands (streaming_fed vrps which content first old fed state at to events feeds s) cut
+next_refused vrps which limits before content first old new state at events whole.NoMemory stands s refused = tt
+next_refused vrps which limits before content first old new state at events whole.Fault stands s refused = tt
+
+fed_within : (c fed rest : List ℕ) → octets_read c ≡ fed ++ rest → length fed ≤ 2 ^ 36
+fed_within c fed rest comes = omega (arith, ap length comes, length-append fed rest, length-take (2 ^ 36) c)
+
+may_go_on : {rows : List (Announced × Vrp)} (vrps : List Vrp) (which : MrtInput) (content : Option (List ℕ)) (first : State) (reader : Reader) (state : State) (at events : ℕ) (limits : Limits) (before : List Elem) → StateStands which limits before [] first → Streaming vrps which content first reader state at events rows → IsCutNow reader → IfSome content (λ c. FeedMayGoOn limits.sizes vrps which before (take at c))
+may_go_on vrps which None first reader state at events limits before stands s cut = tt
+may_go_on vrps which (Some c) first reader state at events limits before stands s cut =
+    streaming_on vrps which (Some c) first reader state at events limits before (omega (arith, s.octets, fed_within c s.fed (octets_from at c) s.comes)) stands s cut
+
+-- each of the reads for its next record may be made
+pub next_may_go_on : {rows : List (Announced × Vrp)} (vrps : List Vrp) (which : MrtInput) (content : Option (List ℕ)) (first : State) (old : Reader) (state : State) (at events : ℕ) (limits : Limits) (before : List Elem) → StateStands which limits before [] first → Streaming vrps which content first old state at events rows → (to : ℕ) (fed : Reader) → FeedsUpTo content at old to fed → IsCutNow fed → IfSome content (λ c. FeedMayGoOn limits.sizes vrps which before (take to c))
+next_may_go_on vrps which content first old state at events limits before stands s to fed feeds cut =
+    may_go_on vrps which content first fed state to events limits before stands (streaming_fed vrps which content first old fed state at to events feeds s) cut

@@ -21,11 +21,9 @@ use Rattle.fib_run.specs.declared.state.State.{State}
 use Rattle.fib_run.specs.declared.state.FeedError.{FeedError}
 use Rattle.fib_run.specs.declared.state.FeedError.TheVariants.{Malformed, HopsFull, TrieFull, NoMemory, Fault, TooLarge}
 use Rattle.fib_io.specs.Causes.{Rose}
-use Rattle.fib_io.specs.declared.pieces.ReadError.{ReadError}
-use Rattle.fib_io.specs.declared.pieces.ReadError.TheVariants as pieces
 use Rattle.fib_run.specs.declared.report.InputCounts.{InputCounts}
-use Rattle.mrt_read.specs.declared.reader.EventsError.{EventsError}
-use Rattle.mrt_read.specs.declared.reader.EventsError.TheVariants as read
+use Rattle.mrt_read.specs.declared.whole.WholeError.{WholeError}
+use Rattle.mrt_read.specs.declared.whole.WholeError.TheVariants as whole
 use Rattle.fib_run.specs.Told.{told_changes, told_moves}
 use Rattle.fib_due.specs.Stops.{Stop, IsDueIfTold, FailsDue, event_in, input_of}
 use Rattle.fib_due.specs.Refusals.{Limits, ManyHops, Refusal, Short, routes_by, stop_at, too_much}
@@ -116,10 +114,12 @@ pub record StateHas (which : MrtInput) (limits : Limits) (before : List Elem) (f
   pub counted : IsCounted feed counts
   pub stands : StateStands which limits before feed.elems state
 
--- a refusal of a reader, as one of an input
-abbrev pub feed_of_read : EventsError → FeedError
-feed_of_read (read.Malformed malformed) = Malformed malformed
-feed_of_read read.NoMemory = NoMemory
+-- why an input isn't read on, as a refusal of what it brings
+abbrev pub feed_of_read : WholeError → FeedError
+feed_of_read (whole.Malformed malformed) = Malformed malformed
+feed_of_read whole.NoMemory = NoMemory
+feed_of_read whole.Fault = Fault
+feed_of_read whole.TooLarge = TooLarge
 
 -- the outcome if an input brings nothing
 abbrev pub feed_outcome : MrtInput → FeedError → Outcome
@@ -129,12 +129,6 @@ feed_outcome which (Malformed malformed) = outcome.Malformed (input_of which) ma
 feed_outcome which NoMemory = outcome.NoMemory
 feed_outcome which Fault = outcome.ReadFault
 feed_outcome which TooLarge = outcome.TooLarge (input_of which)
-
--- a refusal of what is read, as one of an input
-abbrev pub feed_of_input : ReadError → FeedError
-feed_of_input pieces.Fault = Fault
-feed_of_input pieces.TooLarge = TooLarge
-feed_of_input pieces.NoMemory = NoMemory
 
 -- what was brought is what the definition gives, but for a fault of reading or running out of memory
 abbrev pub StateBrings : MrtInput → Limits → List Elem → Result Counts FeedError → State → Result Feed Stop → Type 0

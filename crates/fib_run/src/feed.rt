@@ -1,6 +1,6 @@
 //! What an input of records brings.
 
-ghost use Rattle.std.specs.Prelude.{◌≡◌, List, [], ◌^◌, ◌<◌, ◌≤◌, length, IfErr, IfOk, Some};
+ghost use Rattle.std.specs.Prelude.{◌≡◌, List, [], ◌^◌, ◌≤◌, length, IfErr, IfOk, Some};
 ghost use Rattle.route_model.specs.Events.{Elem};
 ghost use Rattle.fib_run.specs.Counts.{AreBounded};
 ghost use Rattle.fib_io.specs.Reads.{Makes, Pass, PassInTime};
@@ -12,10 +12,10 @@ ghost use Rattle.fib_run.specs.Standing.{FeedsFrom, IsAtEvent, StateBrings, Stat
 
 use crate::state::{FeedError, State, take_events};
 use fib_due::MrtInput;
-use fib_io::{Inputs, piece_room, read_piece};
+use fib_io::Inputs;
 use fib_report::Invalid;
 use fib_rov::Vrps;
-use mrt_read::Reader;
+use mrt_read::InputReader;
 use std::alloc::Global;
 
 /// What was counted of an input: its records, those of them that were skipped, its elementary events, and the messages that were treated
@@ -34,62 +34,13 @@ pub struct Counts {
     pub invalid: Vec<Invalid>,
 }
 
-/// Takes all that an input brings, through this room: each record, and a header that is refused, before the next read.
-fn feed_through<I: Inputs>(
-    alloc: Global,
-    inputs: &mut I,
-    state: &mut State,
-    vrps: &Vrps,
-    which: MrtInput,
-    name: &str,
-    room: &mut [u8],
-) -> Result<Counts, FeedError>
-    requires some { 0 < length room.old }
-    requires ready { IsAtEvent which 0 state.old.engine }
-    requires few { length state.old.engine.candidates ≤ 2 ^ 40 }
-    ensures brings { (limits : Limits) (before : List Elem) → StateStands which limits before [] state.old
-        → StateBrings which limits before result state.new
-        (feed_at limits.sizes (I.content inputs.old) vrps.now which before (Some name.now)) }
-    ensures ready { IfOk result (λ counts. IsAtEvent which counts.events state.new.engine) }
-    ensures few { IfOk result (λ counts. AreBounded (2 ^ 36) state.old.engine.candidates
-        counts state.new.engine.candidates) }
-    ensures same { I.content inputs.new ≡ I.content inputs.old }
-    ensures cause { FeedsFrom (I.faults inputs.old) (I.faults inputs.new) name.now result }
-    ensures reads { Makes (I.reads inputs.old) (I.reads inputs.new)
-        (Pass (feed_end result) name.now) }
-    ensures in_time { (limits : Limits) (before : List Elem) → StateStands which limits before [] state.old
-        → Makes (I.reads inputs.old) (I.reads inputs.new) (PassInTime (I.content inputs.old name.now)
-        (FeedMayGoOn limits.sizes vrps.now which before) (feed_end result) name.now) }
-    ensures numbered { IfErr result (EventNumbered which) }
-{
-    let mut reader = Reader::new(alloc);
-    let mut more = Vec::new(alloc);
-    let mut invalid = Vec::new(alloc);
-    let mut at = 0;
-    let mut events = 0;
-    loop {
-        let n = read_piece(inputs, name, at, room)?;
-        if n == 0 {
-            reader.finish()?;
-            return Ok(Counts {
-                records: reader.records(),
-                skipped: reader.skipped(),
-                events,
-                treated: reader.treated(),
-                invalid,
-            });
-        }
-        reader.feed(&room[..n])?;
-        at += n as u64;
-        while reader.read_events(&mut more)? {
-            vrps.judge_all(&mut more, &mut invalid)?;
-            events = take_events(state, which, events, &more)?;
-        }
-    }
-}
-
 /// Takes all that an input brings: it is read in pieces, and each record is taken before the next read. The candidates of
 /// the inputs before it are few enough: 2^40 at most. An announcement that is Invalid by the list of VRPs is taken as its withdrawal.
+///
+/// # Errors
+///
+/// The first record that breaks a rule, or an elementary event that is refused; the input has more octets than are read; a failed
+/// read, or out of memory.
 pub fn feed<I: Inputs>(
     alloc: Global,
     inputs: &mut I,
@@ -115,6 +66,19 @@ pub fn feed<I: Inputs>(
         (FeedMayGoOn limits.sizes vrps.now which before) (feed_end result) name.now) }
     ensures numbered { IfErr result (EventNumbered which) }
 {
-    let mut room = piece_room(alloc)?;
-    feed_through(alloc, inputs, state, vrps, which, name, &mut room)
+    let mut reader = InputReader::new(alloc)?;
+    let mut more = Vec::new(alloc);
+    let mut invalid = Vec::new(alloc);
+    let mut events = 0;
+    while reader.read_events(inputs, name, &mut more)? {
+        vrps.judge_all(&mut more, &mut invalid)?;
+        events = take_events(state, which, events, &more)?;
+    }
+    Ok(Counts {
+        records: reader.records(),
+        skipped: reader.skipped(),
+        events,
+        treated: reader.treated(),
+        invalid,
+    })
 }

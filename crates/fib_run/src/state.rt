@@ -10,19 +10,18 @@ ghost use Rattle.kept_model.specs.Feed.{at_event};
 ghost use Rattle.fib_run.specs.Counts.{CountsFit, CountsOn};
 ghost use Rattle.fib_run.specs.Feeds.{EventNumbered};
 ghost use Rattle.fib_due.specs.Refusals.{Limits as ends};
-ghost use Rattle.fib_run.specs.Standing.{EndsShort, IsOfLoad, IsAtEvent, feed_of_input, feed_of_read, refusal_at, StateStands, StateTakes, StateTakesAll};
+ghost use Rattle.fib_run.specs.Standing.{EndsShort, IsOfLoad, IsAtEvent, feed_of_read, refusal_at, StateStands, StateTakes, StateTakesAll};
 ghost use Rattle.fib_report.specs.Views.{moves_as};
 ghost use Rattle.fib_run.specs.Told.{changes_as, limits_as, moves_told};
-ghost use Rattle.fib_run.specs.declared.state.FeedError.TheVariants.{Malformed as IsMalformed, NoMemory as IsNoMemory};
+ghost use Rattle.fib_run.specs.declared.state.FeedError.TheVariants.{NoMemory as IsNoMemory};
 
 use crate::order::{order_event, order_load};
 use fib_delta::Change;
 use fib_due::MrtInput;
 use fib_engine::{Engine, EngineError, Limits, TrieFull};
-use fib_io::ReadError;
 use fib_prefix::{Addr, Elem, Entry, Event, Prefix, Via};
 use fib_report::Moves;
-use mrt_read::{EventsError, Malformed};
+use mrt_read::{Malformed, WholeError};
 use std::alloc::{AllocError, AllocFailed, Global};
 use std::slice;
 use thiserror::Error;
@@ -53,33 +52,15 @@ pub enum FeedError {
     TooLarge,
 }
 
-impl From<ReadError> for FeedError {
-    ghost from_gives = { λ error e. e ≡ feed_of_input error };
-
-    fn from(error: ReadError) -> FeedError {
-        match error {
-            ReadError::Fault => FeedError::Fault,
-            ReadError::TooLarge => FeedError::TooLarge,
-            ReadError::NoMemory => FeedError::NoMemory,
-        }
-    }
-}
-
-impl From<Malformed> for FeedError {
-    ghost from_gives = { λ malformed e. e ≡ IsMalformed malformed };
-
-    fn from(malformed: Malformed) -> FeedError {
-        FeedError::Malformed(malformed)
-    }
-}
-
-impl From<EventsError> for FeedError {
+impl From<WholeError> for FeedError {
     ghost from_gives = { λ error e. e ≡ feed_of_read error };
 
-    fn from(error: EventsError) -> FeedError {
+    fn from(error: WholeError) -> FeedError {
         match error {
-            EventsError::Malformed(malformed) => FeedError::Malformed(malformed),
-            EventsError::NoMemory => FeedError::NoMemory,
+            WholeError::Malformed(malformed) => FeedError::Malformed(malformed),
+            WholeError::NoMemory => FeedError::NoMemory,
+            WholeError::Fault => FeedError::Fault,
+            WholeError::TooLarge => FeedError::TooLarge,
         }
     }
 }
