@@ -43,8 +43,7 @@ fn merge_own(nodes: &mut Nodes, i: usize, at: &Prefix, label: Label, entries: &m
 {
     match *entries {
         [first, rest @ ..] if first.prefix.len == at.len && first.prefix == *at => {
-            let node = read(nodes, i);
-            update_node(nodes, i, node, label, Some(first.hop.0));
+            update_node(nodes, i, label, Some(first.hop.0));
             *entries = rest;
         }
         _ => {}

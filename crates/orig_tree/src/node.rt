@@ -12,7 +12,7 @@ ghost use Rattle.orig_tree.specs.Walk.{rows_of, edited, CanEdit, labelled, has_n
 ghost use Rattle.table_model.specs.Entries.{of_table};
 ghost use Rattle.orig_tree.specs.Views.{path_steps, FitsWidth};
 ghost use Rattle.orig_tree.specs.Uniform.{IsUniform};
-ghost use Rattle.orig_tree.specs.Arena.{cells_of, Owner, blank_cell, cell_at, half_place, walks_at, IsTree, IsSet, retold, cover_at, cover_of, from_half, HasSpares, link, GivesPlace, IsSplit, MakesRoom, HalvesStay, with_half};
+ghost use Rattle.orig_tree.specs.Arena.{cells_of, Owner, blank_cell, cell_at, half_place, walks_at, IsTree, IsSet, slot_of, with_slot, told_slot, told_as, cover_at, cover_of, from_half, HasSpares, link, GivesPlace, IsSplit, MakesRoom, HalvesStay, with_half};
 ghost use Rattle.orig_tree.specs.Bests.{best_in, bests_of, best_one, blank_place, put_at, AreBest, IsGrown, laid};
 ghost use Rattle.orig_tree.specs.Steps.{new_nodes};
 ghost use Rattle.orig_tree.specs.Placed.{Climbs, IsPlaced, route_set};
@@ -81,6 +81,26 @@ impl Node {
         match label {
             Label::Route => self.route.hop,
             Label::Entry => self.entry.hop,
+        }
+    }
+
+    /// One of its labels, with the cover beside it.
+    fn slot(self, label: Label) -> Slot
+        ensures { result ≡ slot_of label self }
+    {
+        match label {
+            Label::Route => self.route,
+            Label::Entry => self.entry,
+        }
+    }
+
+    /// Sets one of its labels, with the cover beside it.
+    fn set_slot(&mut self, label: Label, slot: Slot)
+        ensures { self.new ≡ with_slot label slot self.old }
+    {
+        match label {
+            Label::Route => self.route = slot,
+            Label::Entry => self.entry = slot,
         }
     }
 
@@ -153,6 +173,21 @@ pub(crate) fn put(nodes: &mut Nodes, i: usize, node: Node)
         nodes.root.node = node;
     } else if i <= nodes.halves.len() {
         nodes.halves[i - 1].node = node;
+    }
+}
+
+/// Sets one of a node's labels, with the cover beside it.
+fn put_slot(nodes: &mut Nodes, i: usize, label: Label, slot: Slot)
+    ensures cells { cells_of nodes.new ≡ slice_set (cells_of nodes.old) i (with_slot label slot
+        (cell_at (cells_of nodes.old) i)) }
+    ensures kept { bests_of nodes.new ≡ bests_of nodes.old }
+    ensures free { nodes.new.free ≡ nodes.old.free }
+    ensures len { vec_len nodes.new.halves ≡ vec_len nodes.old.halves }
+{
+    if i == 0 {
+        nodes.root.node.set_slot(label, slot);
+    } else if i <= nodes.halves.len() {
+        nodes.halves[i - 1].node.set_slot(label, slot);
     }
 }
 
@@ -266,48 +301,46 @@ pub(crate) fn cover(node: Node, label: Label) -> Cover
     }
 }
 
-/// A node with one of its labels set, and its cover computed from those of the halves.
-pub(crate) fn retell(nodes: &Nodes, node: Node, label: Label, hop: Option<u16>) -> Node
-    ensures { result ≡ retold label hop (cover_at (cells_of nodes.now) label (half_place node
-        false)) (cover_at (cells_of nodes.now) label (half_place node true)) node }
+/// A label of a node with this hop, and its cover computed from those of the halves.
+fn told(nodes: &Nodes, node: Node, label: Label, hop: Option<u16>) -> Slot
+    ensures { result ≡ told_slot label hop (cells_of nodes.now) node }
 {
     let low = cover_behind(nodes, label, node.half(false));
     let high = cover_behind(nodes, label, node.half(true));
-    let cover = Cover::over(hop, low, high);
+    Slot::over(hop, Cover::over(hop, low, high))
+}
+
+/// A node with one of its labels set, and its cover computed from those of the halves.
+pub(crate) fn retell(nodes: &Nodes, node: Node, label: Label, hop: Option<u16>) -> Node
+    ensures { result ≡ told_as label hop (cells_of nodes.now) node }
+{
+    let slot = told(nodes, node, label, hop);
     match label {
         Label::Route => Node {
-            route: Slot::over(hop, cover),
+            route: slot,
             ..node
         },
         Label::Entry => Node {
-            entry: Slot::over(hop, cover),
+            entry: slot,
             ..node
         },
     }
 }
 
-/// Puts a node at its place with one of its labels set and its cover computed from those of the halves, and returns whether that
-/// is another than it was.
-pub(crate) fn update_node(
-    nodes: &mut Nodes,
-    i: usize,
-    node: Node,
-    label: Label,
-    hop: Option<u16>,
-) -> bool
-    ensures cells { cells_of nodes.new ≡ slice_set (cells_of nodes.old) i (retold label hop (cover_at
-        (cells_of nodes.old) label (half_place node false)) (cover_at (cells_of nodes.old) label
-        (half_place node true)) node) }
-    ensures same { result ≡ false → cover_of label (retold label hop (cover_at (cells_of nodes.old)
-        label (half_place node false)) (cover_at (cells_of nodes.old) label (half_place node true))
-        node) ≡ cover_of label node }
+/// Sets one of a node's labels, with its cover computed from those of the halves, and returns whether that is another than it was.
+pub(crate) fn update_node(nodes: &mut Nodes, i: usize, label: Label, hop: Option<u16>) -> bool
+    ensures cells { cells_of nodes.new ≡ slice_set (cells_of nodes.old) i (told_as label hop
+        (cells_of nodes.old) (cell_at (cells_of nodes.old) i)) }
+    ensures same { result ≡ false → cover_of label (told_as label hop (cells_of nodes.old)
+        (cell_at (cells_of nodes.old) i)) ≡ cover_of label (cell_at (cells_of nodes.old) i) }
     ensures kept { bests_of nodes.new ≡ bests_of nodes.old }
     ensures free { nodes.new.free ≡ nodes.old.free }
     ensures len { vec_len nodes.new.halves ≡ vec_len nodes.old.halves }
 {
-    let new = retell(nodes, node, label, hop);
-    put(nodes, i, new);
-    !cover(new, label).is_same(cover(node, label))
+    let node = read(nodes, i);
+    let slot = told(nodes, node, label, hop);
+    put_slot(nodes, i, label, slot);
+    !slot.kept.is_same(node.slot(label).kept)
 }
 
 /// Sets the hop of a path that has a node, or takes the path's hop away. Covers are computed again on the way up as far as they
@@ -333,21 +366,16 @@ pub(crate) fn assign(
         (cells_of nodes.old) i).nodes → result ≡ false → cover_of label (cell_at (cells_of nodes.new)
         i) ≡ cover_of label (cell_at (cells_of nodes.old) i) }
 {
-    let node = read(nodes, i);
     if path.left == 0 {
-        return update_node(nodes, i, node, label, hop);
+        return update_node(nodes, i, label, hop);
     }
     let at = path.left - 1;
     let rest = Path { left: at, ..path };
-    let own = node.hop(label);
-    match node.half(bit_at(path.bits, at)) {
+    match read(nodes, i).half(bit_at(path.bits, at)) {
         None => false,
         Some(j) => {
             let changed = assign(nodes, j, label, rest, hop);
-            if changed {
-                return update_node(nodes, i, node, label, own);
-            }
-            false
+            climb(nodes, i, label, changed)
         }
     }
 }
@@ -543,8 +571,8 @@ pub(crate) fn climb(nodes: &mut Nodes, i: usize, label: Label, changed: bool) ->
     if !changed {
         return false;
     }
-    let node = read(nodes, i);
-    update_node(nodes, i, node, label, node.hop(label))
+    let own = read(nodes, i).hop(label);
+    update_node(nodes, i, label, own)
 }
 
 /// Sets the hop of one of a path's labels, below a node that inherits the hop from the routes, and makes nodes down to the path:
@@ -570,10 +598,10 @@ pub(crate) fn grow_label<C: Counter>(
     ensures steps { C.count steps.new ≤ C.count steps.old + new_nodes (cells_of nodes.old)
         (path_steps path) i }
 {
-    let node = read(nodes, i);
     if path.left == 0 {
-        return update_node(nodes, i, node, label, Some(hop));
+        return update_node(nodes, i, label, Some(hop));
     }
+    let node = read(nodes, i);
     let at = path.left - 1;
     let rest = Path { left: at, ..path };
     let bit = bit_at(path.bits, at);
@@ -618,10 +646,10 @@ pub(crate) fn set_label(
     ensures held { (d : ℕ) → path.left < d → has_node (path_steps path) (walks_at d (cells_of nodes.old)
         i).nodes ≡ true → IsOk result }
 {
-    let node = read(nodes, i);
     if path.left == 0 {
-        return Ok(update_node(nodes, i, node, label, Some(hop)));
+        return Ok(update_node(nodes, i, label, Some(hop)));
     }
+    let node = read(nodes, i);
     let at = path.left - 1;
     let rest = Path { left: at, ..path };
     match node.half(bit_at(path.bits, at)) {
