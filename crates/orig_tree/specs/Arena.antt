@@ -120,9 +120,9 @@ abbrev pub cover_at : List Node → Label → Option ℕ → Cover
 cover_at cells label None = bare_cover_is
 cover_at cells label (Some j) = cover_of label (cell_at cells j)
 
--- a label with this hop, and the cover that it gets from those of the node's halves
-abbrev pub told_slot : Label → Option ℕ → List Node → Node → Slot
-told_slot label hop cells n = cover_slot hop (covered hop (cover_at cells label (half_place n false)) (cover_at cells label (half_place n true)))
+-- a label with this hop, and the cover that it gets from those of the halves at these places
+abbrev pub slot_over : Label → Option ℕ → List Node → ℕ → ℕ → Slot
+slot_over label hop cells low high = cover_slot hop (covered hop (cover_at cells label (link low)) (cover_at cells label (link high)))
 
 -- the node with that label
 abbrev pub told_as : Label → Option ℕ → List Node → Node → Node

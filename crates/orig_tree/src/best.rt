@@ -34,6 +34,8 @@ pub(crate) struct Change {
 pub(crate) struct Plan {
     pub(crate) alloc: Global,
     pub(crate) changes: Vec<Change>,
+    /// What the last region looked at is to keep, if that is another than it kept.
+    pub(crate) near: Best,
 }
 
 /// The sum, or out of memory if it passes 64 bits. No cost does: it is below the number of the region's addresses.
@@ -172,6 +174,7 @@ pub(crate) fn no_changes(
     Ok(Plan {
         alloc,
         changes: spare,
+        near: Best::one(0),
     })
 }
 

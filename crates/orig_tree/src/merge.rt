@@ -63,7 +63,7 @@ fn open_half(nodes: &mut Nodes, i: usize, bit: bool, inherited: u16) -> Result<u
     }
     reserve(nodes, 1)?;
     let hop = node.route.hop.unwrap_or(inherited);
-    Ok(split(nodes, i, node, bit, Best::one(hop)))
+    Ok(split(nodes, i, bit, Best::one(hop)))
 }
 
 /// Sets a label for those of the entries, from the first on, whose prefixes are within that of a node, each in its turn, and takes

@@ -12,7 +12,7 @@ ghost use Rattle.orig_tree.specs.Walk.{rows_of, edited, CanEdit, labelled, has_n
 ghost use Rattle.table_model.specs.Entries.{of_table};
 ghost use Rattle.orig_tree.specs.Views.{path_steps, FitsWidth};
 ghost use Rattle.orig_tree.specs.Uniform.{IsUniform};
-ghost use Rattle.orig_tree.specs.Arena.{cells_of, Owner, blank_cell, cell_at, half_place, walks_at, IsTree, IsSet, slot_of, with_slot, told_slot, told_as, cover_at, cover_of, from_half, HasSpares, link, GivesPlace, IsSplit, MakesRoom, HalvesStay, with_half};
+ghost use Rattle.orig_tree.specs.Arena.{cells_of, Owner, blank_cell, cell_at, half_place, walks_at, IsTree, IsSet, slot_of, slot_over, with_slot, told_as, cover_at, cover_of, from_half, HasSpares, link, GivesPlace, IsSplit, MakesRoom, HalvesStay, with_half};
 ghost use Rattle.orig_tree.specs.Bests.{best_in, bests_of, best_one, blank_place, put_at, AreBest, IsGrown, laid};
 ghost use Rattle.orig_tree.specs.Steps.{new_nodes};
 ghost use Rattle.orig_tree.specs.Placed.{Climbs, IsPlaced, route_set};
@@ -301,12 +301,12 @@ pub(crate) fn cover(node: Node, label: Label) -> Cover
     }
 }
 
-/// A label of a node with this hop, and its cover computed from those of the halves.
-fn told(nodes: &Nodes, node: Node, label: Label, hop: Option<u16>) -> Slot
-    ensures { result ≡ told_slot label hop (cells_of nodes.now) node }
+/// A label with this hop, and its cover computed from those of the halves, whose places are given, or 0 if one is no node.
+fn told(nodes: &Nodes, low: u32, high: u32, label: Label, hop: Option<u16>) -> Slot
+    ensures { result ≡ slot_over label hop (cells_of nodes.now) low high }
 {
-    let low = cover_behind(nodes, label, node.half(false));
-    let high = cover_behind(nodes, label, node.half(true));
+    let low = cover_behind(nodes, label, linked(low));
+    let high = cover_behind(nodes, label, linked(high));
     Slot::over(hop, Cover::over(hop, low, high))
 }
 
@@ -314,7 +314,7 @@ fn told(nodes: &Nodes, node: Node, label: Label, hop: Option<u16>) -> Slot
 pub(crate) fn retell(nodes: &Nodes, node: Node, label: Label, hop: Option<u16>) -> Node
     ensures { result ≡ told_as label hop (cells_of nodes.now) node }
 {
-    let slot = told(nodes, node, label, hop);
+    let slot = told(nodes, node.low, node.high, label, hop);
     match label {
         Label::Route => Node {
             route: slot,
@@ -338,7 +338,7 @@ pub(crate) fn update_node(nodes: &mut Nodes, i: usize, label: Label, hop: Option
     ensures len { vec_len nodes.new.halves ≡ vec_len nodes.old.halves }
 {
     let node = read(nodes, i);
-    let slot = told(nodes, node, label, hop);
+    let slot = told(nodes, node.low, node.high, label, hop);
     put_slot(nodes, i, label, slot);
     !slot.kept.is_same(node.slot(label).kept)
 }
@@ -497,18 +497,19 @@ fn take(nodes: &mut Nodes) -> u32
 }
 
 /// Makes a half of a node a node, which keeps this, and returns its place.
-pub(crate) fn split(nodes: &mut Nodes, i: usize, node: Node, bit: bool, best: Best) -> usize
+pub(crate) fn split(nodes: &mut Nodes, i: usize, bit: bool, best: Best) -> usize
     requires room { vec_len nodes.old.halves + 1 ≤ vec_capacity nodes.old.halves }
     requires few { vec_len nodes.old.halves + 1 < 2 ^ 32 }
     ensures len { vec_len nodes.new.halves ≤ vec_len nodes.old.halves + 1 }
     ensures capacity { vec_capacity nodes.new.halves ≡ vec_capacity nodes.old.halves }
-    ensures split { (d : ℕ) (name : ℕ → Owner) (n : ℕ) (p : List Bool) → node
-        ≡ cell_at (cells_of nodes.old) i → half_place node bit ≡ None → 1 < d
+    ensures split { (d : ℕ) (name : ℕ → Owner) (n : ℕ) (p : List Bool)
+        → half_place (cell_at (cells_of nodes.old) i) bit ≡ None → 1 < d
         → IsTree d (cells_of nodes.old) name i p → HasSpares (cells_of nodes.old) nodes.old.free name n
         → IsSplit d bit (cells_of nodes.old) (cells_of nodes.new) nodes.new.free name i p result }
     ensures kept { (j : ℕ) → j ≤ vec_len nodes.new.halves
         → best_in nodes.new j ≡ put_at (best_in nodes.old) result best j }
 {
+    let node = read(nodes, i);
     let at = take(nodes);
     let j = at as usize;
     fill(nodes, j, leaf(), best);
@@ -555,7 +556,7 @@ pub(crate) fn grow(nodes: &mut Nodes, i: usize, path: Path, inherited: u16)
     match node.half(bit) {
         Some(j) => grow(nodes, j, rest, hop),
         None => {
-            let j = split(nodes, i, node, bit, Best::one(hop));
+            let j = split(nodes, i, bit, Best::one(hop));
             grow(nodes, j, rest, hop);
         }
     }
@@ -613,7 +614,7 @@ pub(crate) fn grow_label<C: Counter>(
         }
         None => {
             let best = fresh(at, below, label.route(hop));
-            let j = split(nodes, i, node, bit, best);
+            let j = split(nodes, i, bit, best);
             steps.tick();
             let changed = grow_label(nodes, j, rest, below, label, hop, steps);
             climb(nodes, i, label, changed)

@@ -1,8 +1,8 @@
-use Rattle.std.proofs.Common.{ℕ, ◌-◌, Option, [], sym, refl, ◌∙◌, arith, subst}
+use Rattle.std.proofs.Common.{ℕ, ◌-◌, Option, [], sym, ap, refl, ◌∙◌, arith, subst}
 use Rattle.table_model.specs.Bits.{bits_of}
 use Rattle.table_model.specs.Table.{lpm}
 use Rattle.orig_tree.specs.Edits.{edit}
-use Rattle.orig_tree.specs.Arena.{cells_of}
+use Rattle.orig_tree.specs.Arena.{cells_of, half_place}
 use Rattle.orig_tree.specs.Bests.{best_in, IsRegionBest}
 use Rattle.orig_tree.specs.Placed.{route_set}
 use Rattle.orig_tree.proofs.Growing.{within_it, split_inside}
@@ -32,7 +32,7 @@ returns-in-None-clause-made g t c = λ d name n p l s h.
     let S = best_in c.args.nodes.now in
     let x = c.fresh-best.result in
     let gone = sym c.half.ensures ∙ c.in-None.is in
-    let split = c.split-j.ensures.split d name n p c.read-node.ensures gone (omega (arith, c.if-path-eq0.false, l)) s h in
+    let split = c.split-j.ensures.split d name n p (ap (λ x. half_place x c.bit_at-bit.result) (sym c.read-node.ensures) ∙ gone) (omega (arith, c.if-path-eq0.false, l)) s h in
     let longer = split.keeps.long in
     let inside = split_inside d c.bit_at-bit.result old (cells_of c.split-j.new.nodes) c.split-j.new.nodes.free name c.args.i p c.split-j.result split in
     placed_free d c.args.label _ c.args.hop _ _ _ _ name c.args.i p _ _ _ _ _ c.climb-in-None.ensures.free (kept_is c.grow_label-changed-in-None.new.nodes c.climb-in-None.new.nodes c.climb-in-None.ensures.kept) (
