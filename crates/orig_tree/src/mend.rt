@@ -20,8 +20,7 @@ ghost use Rattle.orig_tree.specs.Bests.{IsRegionBest, best_one, best_in, best_be
 use crate::best::{Best, Change, Plan, fresh, half_keeps};
 use crate::counter::Counter;
 use crate::node::{Node, Nodes, best_at, read};
-use crate::path::{Path, RouteEdit};
-use fib_addr::bit_at;
+use crate::path::{Path, RouteEdit, bit_at};
 use std::alloc::{AllocError, Global};
 
 /// Notes what a place is to keep.

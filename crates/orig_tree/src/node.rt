@@ -20,8 +20,8 @@ ghost use Rattle.orig_tree.specs.Placed.{Climbs, IsPlaced, route_set};
 use crate::best::{Best, fresh};
 use crate::counter::{Counter, Uncounted};
 use crate::cover::{Cover, Slot};
-use crate::path::Path;
-use fib_addr::{EntrySink, Prefix, bit_at, emit_entry};
+use crate::path::{Path, bit_at};
+use fib_addr::{EntrySink, Prefix, emit_entry};
 use std::alloc::{AllocError, Global};
 use std::mem;
 

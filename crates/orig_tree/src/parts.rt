@@ -12,8 +12,8 @@ ghost use Rattle.orig_tree.specs.Views.{path_steps, FitsWidth};
 ghost use Rattle.orig_tree.specs.Walk.{has_node};
 
 use crate::node::{Label, Nodes, read, tell};
-use crate::path::Path;
-use fib_addr::{EntrySink, Prefix, bit_at};
+use crate::path::{Path, bit_at};
+use fib_addr::{EntrySink, Prefix};
 use std::alloc::AllocError;
 
 /// What a tree has at a path: whether it is a node, and the hop of its own route.
