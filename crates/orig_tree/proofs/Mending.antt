@@ -14,7 +14,7 @@ use Rattle.orig_tree.specs.Edits.{edit}
 use Rattle.orig_tree.specs.Packed.{cover_in}
 use Rattle.orig_tree.specs.Walk.{Walks}
 use Rattle.orig_tree.specs.Arena.{Owner, At, cell_at, half_place, from_half, IfHalf, IsTree, walks_at, walks_by}
-use Rattle.orig_tree.specs.Bests.{IsRegionBest, best_one, best_behind, kept_or, AreBest, put_at, changed, under, Untouched, UntouchedElse, IsMended, HalfMended}
+use Rattle.orig_tree.specs.Bests.{IsRegionBest, best_one, best_behind, AreBest, put_at, changed, under, Untouched, UntouchedElse, IsMended, HalfMended}
 use Rattle.orig_tree.specs.declared.node.Node.{Node}
 use Rattle.orig_tree.specs.declared.node.Label.TheVariants.{Route}
 use Rattle.orig_tree.specs.declared.best.Best.{Best}
@@ -458,14 +458,14 @@ way_none cells depth left q inherited set o S x e l s name p =
     subst (λ (o : Option ℕ). HalfMended depth cells name o p (λ a. lpm (edit (bits_of left q) set (from_half (walks_at (suc depth) cells) o).routes) a inherited) S S x) (sym e)
     (record { stands = s depth q l; best = tt; keeps = λ j r f b. refl })
 
-pub way_some : (cells : List Node) (depth left q h : ℕ) (set : Option ℕ) (o : Option ℕ) (j : ℕ) (S S0 S1 : ℕ → Best) (x : Option Best) → o ≡ Some j →
+pub way_more : (cells : List Node) (depth left q h : ℕ) (set : Option ℕ) (o : Option ℕ) (j : ℕ) (S S0 S1 : ℕ → Best) (more : Bool) (x : Best) → o ≡ Some j →
     ((name : ℕ → Owner) (p : List Bool) → IsTree (suc depth) cells name j p → AreBest (suc depth) cells S (λ a. lpm (walks_at (suc depth) cells j).routes a h) j → Untouched p name S S0 →
-    IsMended depth cells name j p (λ a. lpm (edit (bits_of left q) set (walks_at (suc depth) cells j).routes) a h) S0 S1 (kept_or x (S j))) →
+    IsMended depth cells name j p (λ a. lpm (edit (bits_of left q) set (walks_at (suc depth) cells j).routes) a h) S0 S1 (cond more x (S j))) →
     (name : ℕ → Owner) (p : List Bool) → IfHalf (λ j. IsTree (suc depth) cells name j p) o → IfHalf (λ j. AreBest (suc depth) cells S (λ a. lpm (walks_at (suc depth) cells j).routes a h) j) o → Untouched p name S S0 →
-    HalfMended depth cells name o p (λ a. lpm (edit (bits_of left q) set (from_half (walks_at (suc depth) cells) o).routes) a h) S0 S1 (kept_or x (best_behind S o (best_one h)))
-way_some cells depth left q h set o j S S0 S1 x e f name p =
+    HalfMended depth cells name o p (λ a. lpm (edit (bits_of left q) set (from_half (walks_at (suc depth) cells) o).routes) a h) S0 S1 (cond more x (best_behind S o (best_one h)))
+way_more cells depth left q h set o j S S0 S1 more x e f name p =
     subst (λ (o : Option ℕ). IfHalf (λ j. IsTree (suc depth) cells name j p) o → IfHalf (λ j. AreBest (suc depth) cells S (λ a. lpm (walks_at (suc depth) cells j).routes a h) j) o → Untouched p name S S0 →
-    HalfMended depth cells name o p (λ a. lpm (edit (bits_of left q) set (from_half (walks_at (suc depth) cells) o).routes) a h) S0 S1 (kept_or x (best_behind S o (best_one h)))) (sym e)
+    HalfMended depth cells name o p (λ a. lpm (edit (bits_of left q) set (from_half (walks_at (suc depth) cells) o).routes) a h) S0 S1 (cond more x (best_behind S o (best_one h)))) (sym e)
     (λ t k u. let m = f name p t k u in record { stands = m.stands; best = m.best; keeps = m.keeps })
 
 -- ---- changes are made

@@ -5,10 +5,10 @@ use Rattle.std.specs.Option.{unwrap_or}
 use Rattle.table_model.specs.Bits.{bits_of}
 use Rattle.table_model.specs.Table.{lpm}
 use Rattle.orig_tree.specs.Edits.{edit}
-use Rattle.orig_tree.specs.Walk.{Walks, labelled, has_node, edited}
+use Rattle.orig_tree.specs.Walk.{Walks, CanEdit, labelled, has_node, edited}
 use Rattle.table_model.specs.Width.{width}
 use Rattle.table_model.specs.declared.family.Family.{Family}
-use Rattle.orig_tree.specs.Arena.{whole, IsArena, Owner, At, cell_at, half_place, walks_at, IsTree, HasSpares, IsSet, IsSplit, HalvesStay, is_below, ChangesBelow, cover_at, cover_of, retold}
+use Rattle.orig_tree.specs.Arena.{whole, IsArena, Owner, At, cell_at, half_place, from_half, walks_at, IsTree, HasSpares, IsSet, IsSplit, HalvesStay, is_below, ChangesBelow, cover_at, cover_of, retold}
 use Rattle.orig_tree.specs.Bests.{IsRegionBest, AreBest, IsLaid, KeepsBest, laid}
 use Rattle.orig_tree.specs.Placed.{Climbs, IsPlaced, route_set, told_again}
 use Rattle.orig_tree.specs.declared.node.Node.{Node}
@@ -18,6 +18,7 @@ use Rattle.orig_tree.specs.declared.best.Best.{Best}
 use Rattle.orig_tree.proofs.Arena.{set_here, set_below, set_stop, renewed, tree_long, begins_self_not}
 use Rattle.orig_tree.proofs.Rooms.{room_end, room_below, roomier_same, split_room}
 use Rattle.orig_tree.proofs.Roots.{set_at}
+use Rattle.orig_tree.proofs.Steps.{allowed_high, allowed_low}
 use Rattle.orig_tree.proofs.Standing.{best_same, best_stay, best_alike}
 use Rattle.orig_tree.proofs.Halving.{halves_same, halves_after, halves_retold}
 use Rattle.orig_tree.proofs.Growing.{laid_answers, grown_end, grown_at, split_grown, tree_side}
@@ -34,30 +35,55 @@ placed_end label left q hop n m old new free i d c name p f S more at z r s same
 }
 
 -- the node's halves stay where its cover is told again
-climb_halves : (label : Label) (old new : List Node) (i : ℕ) (changed more : Bool) → Climbs label changed more old new i → HalvesStay old new
+pub climb_halves : (label : Label) (old new : List Node) (i : ℕ) (changed more : Bool) → Climbs label changed more old new i → HalvesStay old new
 climb_halves label old new i false more (e, g) = subst (λ (cs : List Node). HalvesStay old cs) (sym e) (halves_same old)
 climb_halves label old new i true more (e, g) = halves_retold old old new i label _ _ _ (cell_at old i) (told_again label old (cell_at old i)) refl refl e (halves_same old)
 
+-- what may be set at the node's path may be set below the half
+pub may_below : (hop : Option ℕ) (cells : List Node) (i j left q : ℕ) (b : Bool) (d : ℕ) → left ≢ 0 → b ≡ nat_eq (bit_at q (left - 1)) 1 → half_place (cell_at cells i) b ≡ Some j →
+    CanEdit (bits_of left q) hop (walks_at (suc d) cells i).nodes → CanEdit (bits_of (left - 1) q) hop (walks_at d cells j).nodes
+unfolding walks_at
+may_below hop cells i j left q b d z bit half a =
+    let f = walks_at d cells in
+    let n = cell_at cells i in
+    let low = from_half f (half_place n false) in
+    let high = from_half f (half_place n true) in
+    let P : Bool → Type 0 = λ x. x ≡ nat_eq (bit_at q (left - 1)) 1 → half_place n x ≡ Some j → CanEdit (bits_of (left - 1) q) hop (f j).nodes in
+    (elim b as P [
+      | true ↦ λ x h. subst (λ (o : Option ℕ). CanEdit (bits_of (left - 1) q) hop (from_half f o).nodes) h (allowed_high hop n.route.hop n.entry.hop low high _ left q z x refl a)
+      | false ↦ λ x h. subst (λ (o : Option ℕ). CanEdit (bits_of (left - 1) q) hop (from_half f o).nodes) h (allowed_low hop n.route.hop n.entry.hop low high _ left q z x refl a)
+    ]) bit half
+
 -- the label is set below the half, and the node's cover is told again where the half's has changed
-climbed : (label : Label) (q left hop : ℕ) (mid below new : List Node) (i j : ℕ) (b changed more : Bool) (d : ℕ) (name : ℕ → Owner) (p : List Bool) →
-    left ≢ 0 → b ≡ nat_eq (bit_at q (left - 1)) 1 → half_place (cell_at mid i) b ≡ Some j → left < suc d → IsTree (suc d) mid name i p → has_node (bits_of left q) (walks_at (suc d) mid i).nodes ≡ true →
-    ((v : List Bool) → IsTree d mid name j v → IsSet d label (bits_of (left - 1) q) (Some hop) mid below name j v × (changed ≡ false → cover_of label (cell_at below j) ≡ cover_of label (cell_at mid j))) →
-    Climbs label changed more below new i → IsSet (suc d) label (bits_of left q) (Some hop) mid new name i p × (more ≡ false → cover_of label (cell_at new i) ≡ cover_of label (cell_at mid i))
+climbed : (label : Label) (q left : ℕ) (hop : Option ℕ) (mid below new : List Node) (i j : ℕ) (b changed more : Bool) (d : ℕ) (name : ℕ → Owner) (p : List Bool) →
+    left ≢ 0 → b ≡ nat_eq (bit_at q (left - 1)) 1 → half_place (cell_at mid i) b ≡ Some j → left < suc d → IsTree (suc d) mid name i p → CanEdit (bits_of left q) hop (walks_at (suc d) mid i).nodes →
+    ((v : List Bool) → IsTree d mid name j v → IsSet d label (bits_of (left - 1) q) hop mid below name j v × (changed ≡ false → cover_of label (cell_at below j) ≡ cover_of label (cell_at mid j))) →
+    Climbs label changed more below new i → IsSet (suc d) label (bits_of left q) hop mid new name i p × (more ≡ false → cover_of label (cell_at new i) ≡ cover_of label (cell_at mid i))
 unfolding IsTree
 climbed label q left hop mid below new i j b false more d name p z bit half l t there f (e, g) =
-    let s = set_stop label q left (Some hop) mid i (cell_at mid i) refl below b j (suc d) name p z bit half
-    (λ e v is m u a. subst (λ (x : ℕ). IsTree x mid name j v → IsSet x label (bits_of (left - 1) q) (Some hop) mid below name j v × (cover_of label (cell_at below j) ≡ cover_of label (cell_at mid j))) (omega (arith, is)) (λ w. let y = f v w in (y.0, y.1 refl)) u) l t there in
-    subst (λ (cs : List Node). IsSet (suc d) label (bits_of left q) (Some hop) mid cs name i p × (more ≡ false → cover_of label (cell_at cs i) ≡ cover_of label (cell_at mid i))) (sym e) (s.0, λ w. s.1)
+    let s = set_stop label q left hop mid i (cell_at mid i) refl below b j (suc d) name p z bit half
+    (λ e v is m u a. subst (λ (x : ℕ). IsTree x mid name j v → IsSet x label (bits_of (left - 1) q) hop mid below name j v × (cover_of label (cell_at below j) ≡ cover_of label (cell_at mid j))) (omega (arith, is)) (λ w. let y = f v w in (y.0, y.1 refl)) u) l t there in
+    subst (λ (cs : List Node). IsSet (suc d) label (bits_of left q) hop mid cs name i p × (more ≡ false → cover_of label (cell_at cs i) ≡ cover_of label (cell_at mid i))) (sym e) (s.0, λ w. s.1)
 climbed label q left hop mid below new i j b true more d name p z bit half l t there f (e, g) =
     let n = cell_at mid i in
     let keeps : ChangesBelow (p ++ (b ∷ [])) mid below name = (f (p ++ (b ∷ [])) (tree_side d mid name i j p b half t)).0.keeps in
     let same : cell_at below i ≡ n = keeps.same i (ap (is_below (p ++ (b ∷ []))) t.0 ∙ begins_self_not p b) in
     let put : new ≡ slice_set below i (told_again label below n) = e ∙ ap (λ x. slice_set below i (told_again label below x)) same in (
-      set_below label q left (Some hop) mid i n refl (labelled label n.route.hop n.entry.hop) below new (told_again label below n) refl refl put b j (suc d) name p z bit half
-          (λ e v is m u a. subst (λ (x : ℕ). IsTree x mid name j v → IsSet x label (bits_of (left - 1) q) (Some hop) mid below name j v) (omega (arith, is)) (λ w. (f v w).0) u) l t there,
+      set_below label q left hop mid i n refl (labelled label n.route.hop n.entry.hop) below new (told_again label below n) refl refl put b j (suc d) name p z bit half
+          (λ e v is m u a. subst (λ (x : ℕ). IsTree x mid name j v → IsSet x label (bits_of (left - 1) q) hop mid below name j v) (omega (arith, is)) (λ w. (f v w).0) u) l t there,
       λ w. renewed label mid below new i n (told_again label below n) refl (omega (arith, keeps.long, t.1)) put
           (ap (λ x. cover_of label (told_again label below x)) (sym same) ∙ (g w ∙ ap (cover_of label) same)),
     )
+
+-- the same at any depth, if what holds below the half is known where the label may be set there
+pub set_climbed : (label : Label) (q left : ℕ) (hop : Option ℕ) (mid below new : List Node) (i j : ℕ) (b changed more : Bool) (d : ℕ) (name : ℕ → Owner) (p : List Bool) →
+    left ≢ 0 → b ≡ nat_eq (bit_at q (left - 1)) 1 → half_place (cell_at mid i) b ≡ Some j → left < d → IsTree d mid name i p → CanEdit (bits_of left q) hop (walks_at d mid i).nodes →
+    ((e : ℕ) (v : List Bool) → left - 1 < e → IsTree e mid name j v → CanEdit (bits_of (left - 1) q) hop (walks_at e mid j).nodes → IsSet e label (bits_of (left - 1) q) hop mid below name j v × (changed ≡ false → cover_of label (cell_at below j) ≡ cover_of label (cell_at mid j))) →
+    Climbs label changed more below new i → IsSet d label (bits_of left q) hop mid new name i p × (more ≡ false → cover_of label (cell_at new i) ≡ cover_of label (cell_at mid i))
+unfolding IsTree
+set_climbed label q left hop mid below new i j b changed more zero name p z bit half l t there f climbs = absurd t
+set_climbed label q left hop mid below new i j b changed more (suc d) name p z bit half l t there f climbs =
+    climbed label q left hop mid below new i j b changed more d name p z bit half l t there (λ v u. f d v (omega (arith, l, z)) u (may_below hop mid i j left q b d z bit half there)) climbs
 
 pub placed_some : (label : Label) (left q h low hop : ℕ) (b changed more : Bool) (set : Option ℕ) (n : Node) (old below new : List Node) (free free' i j d c : ℕ) (o : Option ℕ) (name : ℕ → Owner) (p : List Bool) (S S' : ℕ → Best) →
     n ≡ cell_at old i → left ≢ 0 → b ≡ nat_eq (bit_at q (left - 1)) 1 → low ≡ unwrap_or n.route.hop h → o ≡ half_place n b → o ≡ Some j → left < d → IsTree d old name i p → HasSpares old free name c →
@@ -73,7 +99,7 @@ placed_some label left q h low hop b changed more set n old below new free free'
     record {
       middle = y.middle;
       room = room;
-      set = λ name1 v u. climbed label q left hop y.middle below new i j b changed more d name1 v z bit half l u room.there (λ w x. y.set name1 w x) climbs;
+      set = λ name1 v u. climbed label q left (Some hop) y.middle below new i j b changed more d name1 v z bit half l u room.there (λ w x. y.set name1 w x) climbs;
       stay = halves_after y.middle below new y.stay (climb_halves label below new i changed more climbs);
       grown = λ k. grown_at left q h low b set n old i at z bit low_is y.middle free' j d name p S S' is t y.room y.grown k;
     }

@@ -5,7 +5,7 @@ use Rattle.std.proofs.lemmas.Bool.{eqb-true, eqb-false}
 use Rattle.std.proofs.lemmas.Grind.{get_or-set_at}
 use Rattle.std.proofs.lemmas.List.{get_or-set_other, length-map, map-set, map-append, get_or-map}
 use Rattle.std.proofs.Math.Seq.{map-set_same}
-use Rattle.orig_tree.specs.Arena.{cells_of}
+use Rattle.orig_tree.specs.Arena.{cells_of, blank_cell}
 use Rattle.orig_tree.specs.Bests.{bests_of, best_in, best_one, put_at}
 use Rattle.orig_tree.specs.declared.node.Place.{Place}
 use Rattle.orig_tree.specs.declared.node.Nodes.{Nodes}
@@ -54,6 +54,13 @@ kept_at root xs zero d z l = absurd (z refl)
 kept_at root xs (suc j) d z l =
     let e : suc j - 1 ≡ j = omega arith in
     ap (λ k. (slice_index_or xs k d).best) e ∙ sym (get_or-map (λ (p : Place). p.best) xs j d (best_one 0) (omega (arith, l)))
+
+-- the node of a place, read at the place itself
+pub node_at : (root : Place) (xs : List Place) (i : ℕ) (d : Place) → i ≢ 0 → i ≤ length xs → (slice_index_or xs (i - 1) d).node ≡ slice_index_or (root.node ∷ map (λ (p : Place). p.node) xs) i blank_cell
+node_at root xs zero d z l = absurd (z refl)
+node_at root xs (suc j) d z l =
+    let e : suc j - 1 ≡ j = omega arith in
+    ap (λ k. (slice_index_or xs k d).node) e ∙ sym (get_or-map (λ (p : Place). p.node) xs j d blank_cell (omega (arith, l)))
 
 -- what is kept, where no place keeps anything else
 pub kept_is : (old new : Nodes) → bests_of new ≡ bests_of old → best_in new ≡ best_in old

@@ -7,6 +7,7 @@ use Rattle.orig_tree.specs.Walk.{Walks, no_walks, walks_of, edited, AreMadeTo, h
 use Rattle.orig_tree.specs.Cover.{covered}
 use Rattle.orig_tree.specs.Slots.{AreCovers}
 use Rattle.orig_tree.specs.declared.cover.Cover.{Cover}
+use Rattle.orig_tree.specs.declared.cover.Slot.{Slot}
 use Rattle.orig_tree.specs.Packed.{cover_slot, cover_in, bare_slot}
 use Rattle.orig_tree.specs.declared.cover.Hops.TheVariants.{Zero}
 use Rattle.orig_tree.specs.declared.node.Node.{Node}
@@ -40,6 +41,11 @@ link (suc j) = Some (suc j)
 abbrev pub half_place : Node → Bool → Option ℕ
 half_place n false = link n.low
 half_place n true = link n.high
+
+-- the own route of the node at a place, if one is given
+abbrev pub route_in : List Node → Option ℕ → Option ℕ
+route_in cells None = None
+route_in cells (Some j) = (cell_at cells j).route.hop
 
 abbrev pub from_half : (ℕ → Walks) → Option ℕ → Walks
 from_half f None = no_walks
@@ -96,6 +102,16 @@ abbrev pub retold : Label → Option ℕ → Cover → Cover → Node → Node
 retold Route hop low high n = record { low = n.low; high = n.high; route = cover_slot hop (covered hop low high); entry = n.entry }
 retold Entry hop low high n = record { low = n.low; high = n.high; route = n.route; entry = cover_slot hop (covered hop low high) }
 
+-- one label of a node, with its cover
+abbrev pub slot_of : Label → Node → Slot
+slot_of Route n = n.route
+slot_of Entry n = n.entry
+
+-- a node with this for one label
+abbrev pub with_slot : Label → Slot → Node → Node
+with_slot Route s n = record { low = n.low; high = n.high; route = s; entry = n.entry }
+with_slot Entry s n = record { low = n.low; high = n.high; route = n.route; entry = s }
+
 abbrev pub cover_of : Label → Node → Cover
 cover_of Route n = cover_in n.route
 cover_of Entry n = cover_in n.entry
@@ -103,6 +119,14 @@ cover_of Entry n = cover_in n.entry
 abbrev pub cover_at : List Node → Label → Option ℕ → Cover
 cover_at cells label None = bare_cover_is
 cover_at cells label (Some j) = cover_of label (cell_at cells j)
+
+-- a label with this hop, and the cover that it gets from those of the halves at these places
+abbrev pub slot_over : Label → Option ℕ → List Node → ℕ → ℕ → Slot
+slot_over label hop cells low high = cover_slot hop (covered hop (cover_at cells label (link low)) (cover_at cells label (link high)))
+
+-- the node with that label
+abbrev pub told_as : Label → Option ℕ → List Node → Node → Node
+told_as label hop cells n = retold label hop (cover_at cells label (half_place n false)) (cover_at cells label (half_place n true)) n
 
 -- the array after a label's hop is set at a path, or taken away
 pub record IsSet (d : ℕ) (label : Label) (q : List Bool) (hop : Option ℕ) (old new : List Node) (name : ℕ → Owner) (i : ℕ) (p : List Bool) : Type 0 where

@@ -48,11 +48,6 @@ abbrev pub best_behind : (ℕ → Best) → Option ℕ → Best → Best
 best_behind kept None x = x
 best_behind kept (Some j) x = kept j
 
--- what a region is to keep, or, if that isn't given, what it keeps
-abbrev pub kept_or : Option Best → Best → Best
-kept_or None y = y
-kept_or (Some x) y = x
-
 -- ---- changes
 
 abbrev pub put_at : (ℕ → Best) → ℕ → Best → ℕ → Best

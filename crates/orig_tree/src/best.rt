@@ -29,11 +29,15 @@ pub(crate) struct Change {
     pub(crate) best: Best,
 }
 
-/// What places are to keep, each change after those before it, and the allocator that gives more.
+/// What places are to keep when a route changes, each change after those before it, and the allocator that gives more.
 #[derive(Drop)]
 pub(crate) struct Plan {
     pub(crate) alloc: Global,
+    /// The hop that the route is to have, or none if it is taken away.
+    pub(crate) set: Option<u16>,
     pub(crate) changes: Vec<Change>,
+    /// What the last region looked at is to keep, if that is another than it kept.
+    pub(crate) near: Best,
 }
 
 /// The sum, or out of memory if it passes 64 bits. No cost does: it is below the number of the region's addresses.
@@ -159,7 +163,7 @@ pub(crate) fn join_kept(
     Best::joined(alloc, low, high)
 }
 
-/// No changes yet, with room for those on a way of `depth` bits. The list's own room is used again.
+/// No changes yet, for a route that is taken away, with room for those on a way of `depth` bits. The list's own room is used again.
 pub(crate) fn no_changes(
     alloc: Global,
     mut spare: Vec<Change>,
@@ -171,7 +175,9 @@ pub(crate) fn no_changes(
     spare.reserve(depth as usize + 1)?;
     Ok(Plan {
         alloc,
+        set: None,
         changes: spare,
+        near: Best::one(0),
     })
 }
 

@@ -6,8 +6,7 @@ ghost use Rattle.orig_tree.specs.Arena.{cells_of, walks_at, from_half};
 ghost use Rattle.orig_tree.specs.Within.{nodes_in, told};
 
 use crate::node::{Nodes, read};
-use crate::path::Path;
-use fib_addr::bit_at;
+use crate::path::{Path, bit_at};
 
 /// The nodes from a node on, over `depth` levels below it.
 #[cycle(count)]

@@ -23,7 +23,7 @@ pub(crate) struct Cover {
 }
 
 /// How many hops a kept cover has.
-#[derive(Clone, Copy)]
+#[derive(Clone, Copy, PartialEq, Eq)]
 pub(crate) enum Kind {
     /// None.
     Empty,
@@ -34,7 +34,7 @@ pub(crate) enum Kind {
 }
 
 /// A cover as a node keeps it, in four octets.
-#[derive(Clone, Copy)]
+#[derive(Clone, Copy, PartialEq, Eq)]
 pub(crate) struct Kept {
     passes: bool,
     kind: Kind,
@@ -51,8 +51,15 @@ pub(crate) struct Slot {
 }
 
 impl Kept {
-    ghost use Rattle.std.specs.Prelude.{◌≡◌};
+    ghost use Rattle.std.specs.Prelude.{◌≡◌, true};
     ghost use Rattle.orig_tree.specs.Packed.{opened};
+
+    /// Whether the two are one.
+    pub(crate) fn is_same(self, other: Kept) -> bool
+        ensures { result ≡ true → self ≡ other }
+    {
+        self == other
+    }
 
     /// The cover.
     pub(crate) fn open(self) -> Cover
@@ -70,19 +77,8 @@ impl Kept {
 }
 
 impl Hops {
-    ghost use Rattle.std.specs.Prelude.{◌≡◌, true};
+    ghost use Rattle.std.specs.Prelude.{◌≡◌};
     ghost use Rattle.orig_tree.specs.Cover.{both};
-
-    /// Whether they are the same.
-    fn is_same(self, other: Hops) -> bool
-        ensures { result ≡ true → self ≡ other }
-    {
-        match (self, other) {
-            (Hops::Zero, Hops::Zero) | (Hops::Many, Hops::Many) => true,
-            (Hops::One(hop), Hops::One(same)) => hop == same,
-            _ => false,
-        }
-    }
 
     /// The hops of two regions together.
     fn and(self, other: Hops) -> Hops
@@ -97,15 +93,8 @@ impl Hops {
 }
 
 impl Cover {
-    ghost use Rattle.std.specs.Prelude.{◌≡◌, true};
+    ghost use Rattle.std.specs.Prelude.{◌≡◌};
     ghost use Rattle.orig_tree.specs.Cover.{covered, only_of};
-
-    /// Whether the two are one.
-    pub(crate) fn is_same(self, other: Cover) -> bool
-        ensures { result ≡ true → self ≡ other }
-    {
-        self.passes == other.passes && self.hops.is_same(other.hops)
-    }
 
     /// The cover of a region with this hop of its own, from those of its halves.
     pub(crate) fn over(hop: Option<u16>, low: Cover, high: Cover) -> Cover

@@ -8,8 +8,7 @@ ghost use Rattle.orig_tree.specs.Bests.{bests_of};
 ghost use Rattle.orig_tree.specs.Drops.{with_halves, spare_node, NodeTrimmed, HalfTrimmed};
 
 use crate::node::{Node, Nodes, leaf, put, read};
-use crate::path::Path;
-use fib_addr::bit_at;
+use crate::path::{Path, bit_at};
 
 /// Whether a node has a label of its own.
 fn has_label(node: Node) -> bool

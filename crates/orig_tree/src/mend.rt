@@ -4,7 +4,7 @@
 //! A step is a set computed: one that a node is to keep, put together from those of its halves, or made of the hop that all its
 //! addresses get. What a region keeps that has no node is no step: it is the hop from above, and of the route that is set there.
 
-ghost use Rattle.std.specs.Prelude.{◌≡◌, ◌≢◌, ◌≤◌, ◌+◌, ◌++◌, ℕ, suc, List, length, Bool, true, false, [], ◌∷◌, Option, IfOk, OnOk, not, ◌&&◌, vec_len};
+ghost use Rattle.std.specs.Prelude.{◌≡◌, ◌≢◌, ◌≤◌, ◌+◌, ◌++◌, ℕ, suc, List, length, Bool, true, false, [], ◌∷◌, Option, IfOk, OnOk, not, ◌&&◌, cond, vec_len};
 ghost use Rattle.std.specs.Option.{unwrap_or, is_some};
 ghost use Rattle.table_model.specs.Bits.{bits_of};
 ghost use Rattle.table_model.specs.Table.{lpm};
@@ -15,13 +15,12 @@ ghost use Rattle.orig_tree.specs.Views.{path_steps};
 ghost use Rattle.orig_tree.specs.Arena.{cells_of, Owner, IfHalf, IsTree, walks_at, from_half};
 ghost use Rattle.orig_tree.specs.Within.{nodes_in};
 ghost use Rattle.orig_tree.specs.Steps.{new_nodes, new_behind};
-ghost use Rattle.orig_tree.specs.Bests.{IsRegionBest, best_one, best_in, best_behind, kept_or, changed, under, AreBest, Untouched, IsMended, HalfMended};
+ghost use Rattle.orig_tree.specs.Bests.{IsRegionBest, best_one, best_in, best_behind, changed, under, AreBest, Untouched, IsMended, HalfMended};
 
 use crate::best::{Best, Change, Plan, fresh, half_keeps};
 use crate::counter::Counter;
 use crate::node::{Node, Nodes, best_at, read};
-use crate::path::{Path, RouteEdit};
-use fib_addr::bit_at;
+use crate::path::{Path, bit_at};
 use std::alloc::{AllocError, Global};
 
 /// Notes what a place is to keep.
@@ -123,61 +122,59 @@ fn mend_half<C: Counter>(
     }
 }
 
-/// The region of a node, of `depth` bits, that inherits the hop, if the route at a path below it becomes this one,
-/// with the changes to what is kept there. The path needs no node. None is returned if the region keeps what it did: no region
-/// above it then keeps anything else.
+/// The region of a node, of `depth` bits, that inherits the hop, if the route at a path below it becomes the plan's, with the
+/// changes to what is kept there. The path needs no node. It returns whether the region is to keep anything else,
+/// which is left in `near`; if not, no region above it is to either.
 #[cycle(plan)]
 pub(crate) fn plan<C: Counter>(
     nodes: &Nodes,
     i: usize,
-    route: RouteEdit,
+    path: Path,
     depth: u8,
     inherited: u16,
     out: &mut Plan,
     steps: &mut C,
-) -> Result<Option<Best>, AllocError>
-    requires few { route.path.left ≤ depth }
+) -> Result<bool, AllocError>
+    requires few { path.left ≤ depth }
     requires most { depth ≤ 128 }
-    ensures best { IfOk result (λ x. (name : ℕ → Owner) (p : List Bool)
+    ensures best { IfOk result (λ more. (name : ℕ → Owner) (p : List Bool)
         → IsTree (suc depth) (cells_of nodes.now) name i p
         → AreBest (suc depth) (cells_of nodes.now) (best_in nodes.now) (λ a. lpm (walks_at (suc depth)
         (cells_of nodes.now) i).routes a inherited) i
         → Untouched p name (best_in nodes.now) (changed out.old.changes.items (best_in nodes.now))
-        → IsMended depth (cells_of nodes.now) name i p (λ a. lpm (edit (path_steps route.path) route.hop
+        → IsMended depth (cells_of nodes.now) name i p (λ a. lpm (edit (path_steps path) out.old.set
         (walks_at (suc depth) (cells_of nodes.now) i).routes) a inherited)
         (changed out.old.changes.items (best_in nodes.now))
-        (changed out.new.changes.items (best_in nodes.now)) (kept_or x (best_in nodes.now i))) }
-    ensures steps { C.count steps.new + new_nodes (cells_of nodes.now) (path_steps route.path) i
-        ≤ C.count steps.old + route.path.left + 1 + nodes_in (path_steps route.path)
+        (changed out.new.changes.items (best_in nodes.now))
+        (cond more out.new.near (best_in nodes.now i))) }
+    ensures steps { C.count steps.new + new_nodes (cells_of nodes.now) (path_steps path) i
+        ≤ C.count steps.old + path.left + 1 + nodes_in (path_steps path)
         (walks_at (suc depth) (cells_of nodes.now) i).nodes }
 {
-    if route.path.left == 0 {
-        let mended = mend(nodes, i, route.hop.unwrap_or(inherited), depth, out, steps)?;
-        return Ok(Some(mended));
+    if path.left == 0 {
+        out.near = mend(nodes, i, out.set.unwrap_or(inherited), depth, out, steps)?;
+        return Ok(true);
     }
     let node = read(nodes, i);
     let hop = node.route.hop.unwrap_or(inherited);
-    let at = route.path.left - 1;
-    let bit = bit_at(route.path.bits, at);
-    let path = Path {
-        left: at,
-        ..route.path
-    };
-    let rest = RouteEdit { path, ..route };
-    let planned = plan_half(nodes, node.half(bit), rest, depth - 1, hop, out, steps)?;
-    let Some(near) = planned else {
-        return Ok(None);
-    };
+    let at = path.left - 1;
+    let bit = bit_at(path.bits, at);
+    let rest = Path { left: at, ..path };
+    let more = plan_half(nodes, node.half(bit), rest, depth - 1, hop, out, steps)?;
+    if !more {
+        return Ok(false);
+    }
     let none = Best::one(0);
     let bare = Best::one(hop);
     let far = half_keeps(nodes, node.half(!bit), &none, &bare);
     steps.tick();
-    let best = join_sides(out.alloc, bit, &near, far)?;
+    let best = join_sides(out.alloc, bit, &out.near, far)?;
     if best.is_same(best_at(nodes, i, &none)) {
-        return Ok(None);
+        return Ok(false);
     }
     note(i, &best, out)?;
-    Ok(Some(best))
+    out.near = best;
+    Ok(true)
 }
 
 /// The same of a half.
@@ -185,30 +182,33 @@ pub(crate) fn plan<C: Counter>(
 fn plan_half<C: Counter>(
     nodes: &Nodes,
     half: Option<usize>,
-    route: RouteEdit,
+    path: Path,
     depth: u8,
     inherited: u16,
     out: &mut Plan,
     steps: &mut C,
-) -> Result<Option<Best>, AllocError>
-    requires few { route.path.left ≤ depth }
+) -> Result<bool, AllocError>
+    requires few { path.left ≤ depth }
     requires most { depth ≤ 128 }
-    ensures best { IfOk result (λ x. (name : ℕ → Owner) (p : List Bool)
+    ensures best { IfOk result (λ more. (name : ℕ → Owner) (p : List Bool)
         → IfHalf (λ j. IsTree (suc depth) (cells_of nodes.now) name j p) half
         → IfHalf (λ j. AreBest (suc depth) (cells_of nodes.now) (best_in nodes.now) (λ a. lpm (walks_at
         (suc depth) (cells_of nodes.now) j).routes a inherited) j) half
         → Untouched p name (best_in nodes.now) (changed out.old.changes.items (best_in nodes.now))
-        → HalfMended depth (cells_of nodes.now) name half p (λ a. lpm (edit (path_steps route.path)
-        route.hop (from_half (walks_at (suc depth) (cells_of nodes.now)) half).routes) a inherited)
+        → HalfMended depth (cells_of nodes.now) name half p (λ a. lpm (edit (path_steps path)
+        out.old.set (from_half (walks_at (suc depth) (cells_of nodes.now)) half).routes) a inherited)
         (changed out.old.changes.items (best_in nodes.now))
         (changed out.new.changes.items (best_in nodes.now))
-        (kept_or x (best_behind (best_in nodes.now) half (best_one inherited)))) }
-    ensures steps { C.count steps.new + new_behind (cells_of nodes.now) (path_steps route.path) half
-        ≤ C.count steps.old + route.path.left + 1 + nodes_in (path_steps route.path)
+        (cond more out.new.near (best_behind (best_in nodes.now) half (best_one inherited)))) }
+    ensures steps { C.count steps.new + new_behind (cells_of nodes.now) (path_steps path) half
+        ≤ C.count steps.old + path.left + 1 + nodes_in (path_steps path)
         (from_half (walks_at (suc depth) (cells_of nodes.now)) half).nodes }
 {
     match half {
-        None => Ok(Some(fresh(route.path.left, inherited, route.hop))),
-        Some(j) => plan(nodes, j, route, depth, inherited, out, steps),
+        None => {
+            out.near = fresh(path.left, inherited, out.set);
+            Ok(true)
+        }
+        Some(j) => plan(nodes, j, path, depth, inherited, out, steps),
     }
 }

@@ -43,8 +43,7 @@ fn merge_own(nodes: &mut Nodes, i: usize, at: &Prefix, label: Label, entries: &m
 {
     match *entries {
         [first, rest @ ..] if first.prefix.len == at.len && first.prefix == *at => {
-            let node = read(nodes, i);
-            update_node(nodes, i, node, label, Some(first.hop.0));
+            update_node(nodes, i, label, Some(first.hop.0));
             *entries = rest;
         }
         _ => {}
@@ -64,7 +63,7 @@ fn open_half(nodes: &mut Nodes, i: usize, bit: bool, inherited: u16) -> Result<u
     }
     reserve(nodes, 1)?;
     let hop = node.route.hop.unwrap_or(inherited);
-    Ok(split(nodes, i, node, bit, Best::one(hop)))
+    Ok(split(nodes, i, bit, Best::one(hop)))
 }
 
 /// Sets a label for those of the entries, from the first on, whose prefixes are within that of a node, each in its turn, and takes

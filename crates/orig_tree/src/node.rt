@@ -12,7 +12,7 @@ ghost use Rattle.orig_tree.specs.Walk.{rows_of, edited, CanEdit, labelled, has_n
 ghost use Rattle.table_model.specs.Entries.{of_table};
 ghost use Rattle.orig_tree.specs.Views.{path_steps, FitsWidth};
 ghost use Rattle.orig_tree.specs.Uniform.{IsUniform};
-ghost use Rattle.orig_tree.specs.Arena.{cells_of, Owner, blank_cell, cell_at, half_place, walks_at, IsTree, IsSet, retold, cover_at, cover_of, from_half, HasSpares, link, GivesPlace, IsSplit, MakesRoom, HalvesStay, with_half};
+ghost use Rattle.orig_tree.specs.Arena.{cells_of, Owner, blank_cell, cell_at, half_place, walks_at, IsTree, IsSet, slot_of, slot_over, with_slot, told_as, cover_at, cover_of, from_half, HasSpares, link, GivesPlace, IsSplit, MakesRoom, HalvesStay, with_half};
 ghost use Rattle.orig_tree.specs.Bests.{best_in, bests_of, best_one, blank_place, put_at, AreBest, IsGrown, laid};
 ghost use Rattle.orig_tree.specs.Steps.{new_nodes};
 ghost use Rattle.orig_tree.specs.Placed.{Climbs, IsPlaced, route_set};
@@ -20,8 +20,8 @@ ghost use Rattle.orig_tree.specs.Placed.{Climbs, IsPlaced, route_set};
 use crate::best::{Best, fresh};
 use crate::counter::{Counter, Uncounted};
 use crate::cover::{Cover, Slot};
-use crate::path::Path;
-use fib_addr::{EntrySink, Prefix, bit_at, emit_entry};
+use crate::path::{Path, bit_at};
+use fib_addr::{EntrySink, Prefix, emit_entry};
 use std::alloc::{AllocError, Global};
 use std::mem;
 
@@ -81,6 +81,26 @@ impl Node {
         match label {
             Label::Route => self.route.hop,
             Label::Entry => self.entry.hop,
+        }
+    }
+
+    /// One of its labels, with the cover beside it.
+    fn slot(self, label: Label) -> Slot
+        ensures { result ≡ slot_of label self }
+    {
+        match label {
+            Label::Route => self.route,
+            Label::Entry => self.entry,
+        }
+    }
+
+    /// Sets one of its labels, with the cover beside it.
+    fn set_slot(&mut self, label: Label, slot: Slot)
+        ensures { self.new ≡ with_slot label slot self.old }
+    {
+        match label {
+            Label::Route => self.route = slot,
+            Label::Entry => self.entry = slot,
         }
     }
 
@@ -153,6 +173,21 @@ pub(crate) fn put(nodes: &mut Nodes, i: usize, node: Node)
         nodes.root.node = node;
     } else if i <= nodes.halves.len() {
         nodes.halves[i - 1].node = node;
+    }
+}
+
+/// Sets one of a node's labels, with the cover beside it.
+fn put_slot(nodes: &mut Nodes, i: usize, label: Label, slot: Slot)
+    ensures cells { cells_of nodes.new ≡ slice_set (cells_of nodes.old) i (with_slot label slot
+        (cell_at (cells_of nodes.old) i)) }
+    ensures kept { bests_of nodes.new ≡ bests_of nodes.old }
+    ensures free { nodes.new.free ≡ nodes.old.free }
+    ensures len { vec_len nodes.new.halves ≡ vec_len nodes.old.halves }
+{
+    if i == 0 {
+        nodes.root.node.set_slot(label, slot);
+    } else if i <= nodes.halves.len() {
+        nodes.halves[i - 1].node.set_slot(label, slot);
     }
 }
 
@@ -266,48 +301,46 @@ pub(crate) fn cover(node: Node, label: Label) -> Cover
     }
 }
 
+/// A label with this hop, and its cover computed from those of the halves, whose places are given, or 0 if one is no node.
+fn told(nodes: &Nodes, low: u32, high: u32, label: Label, hop: Option<u16>) -> Slot
+    ensures { result ≡ slot_over label hop (cells_of nodes.now) low high }
+{
+    let low = cover_behind(nodes, label, linked(low));
+    let high = cover_behind(nodes, label, linked(high));
+    Slot::over(hop, Cover::over(hop, low, high))
+}
+
 /// A node with one of its labels set, and its cover computed from those of the halves.
 pub(crate) fn retell(nodes: &Nodes, node: Node, label: Label, hop: Option<u16>) -> Node
-    ensures { result ≡ retold label hop (cover_at (cells_of nodes.now) label (half_place node
-        false)) (cover_at (cells_of nodes.now) label (half_place node true)) node }
+    ensures { result ≡ told_as label hop (cells_of nodes.now) node }
 {
-    let low = cover_behind(nodes, label, node.half(false));
-    let high = cover_behind(nodes, label, node.half(true));
-    let cover = Cover::over(hop, low, high);
+    let slot = told(nodes, node.low, node.high, label, hop);
     match label {
         Label::Route => Node {
-            route: Slot::over(hop, cover),
+            route: slot,
             ..node
         },
         Label::Entry => Node {
-            entry: Slot::over(hop, cover),
+            entry: slot,
             ..node
         },
     }
 }
 
-/// Puts a node at its place with one of its labels set and its cover computed from those of the halves, and returns whether that
-/// is another than it was.
-pub(crate) fn update_node(
-    nodes: &mut Nodes,
-    i: usize,
-    node: Node,
-    label: Label,
-    hop: Option<u16>,
-) -> bool
-    ensures cells { cells_of nodes.new ≡ slice_set (cells_of nodes.old) i (retold label hop (cover_at
-        (cells_of nodes.old) label (half_place node false)) (cover_at (cells_of nodes.old) label
-        (half_place node true)) node) }
-    ensures same { result ≡ false → cover_of label (retold label hop (cover_at (cells_of nodes.old)
-        label (half_place node false)) (cover_at (cells_of nodes.old) label (half_place node true))
-        node) ≡ cover_of label node }
+/// Sets one of a node's labels, with its cover computed from those of the halves, and returns whether that is another than it was.
+pub(crate) fn update_node(nodes: &mut Nodes, i: usize, label: Label, hop: Option<u16>) -> bool
+    ensures cells { cells_of nodes.new ≡ slice_set (cells_of nodes.old) i (told_as label hop
+        (cells_of nodes.old) (cell_at (cells_of nodes.old) i)) }
+    ensures same { result ≡ false → cover_of label (told_as label hop (cells_of nodes.old)
+        (cell_at (cells_of nodes.old) i)) ≡ cover_of label (cell_at (cells_of nodes.old) i) }
     ensures kept { bests_of nodes.new ≡ bests_of nodes.old }
     ensures free { nodes.new.free ≡ nodes.old.free }
     ensures len { vec_len nodes.new.halves ≡ vec_len nodes.old.halves }
 {
-    let new = retell(nodes, node, label, hop);
-    put(nodes, i, new);
-    !cover(new, label).is_same(cover(node, label))
+    let node = read(nodes, i);
+    let slot = told(nodes, node.low, node.high, label, hop);
+    put_slot(nodes, i, label, slot);
+    !slot.kept.is_same(node.slot(label).kept)
 }
 
 /// Sets the hop of a path that has a node, or takes the path's hop away. Covers are computed again on the way up as far as they
@@ -333,21 +366,16 @@ pub(crate) fn assign(
         (cells_of nodes.old) i).nodes → result ≡ false → cover_of label (cell_at (cells_of nodes.new)
         i) ≡ cover_of label (cell_at (cells_of nodes.old) i) }
 {
-    let node = read(nodes, i);
     if path.left == 0 {
-        return update_node(nodes, i, node, label, hop);
+        return update_node(nodes, i, label, hop);
     }
     let at = path.left - 1;
     let rest = Path { left: at, ..path };
-    let own = node.hop(label);
-    match node.half(bit_at(path.bits, at)) {
+    match read(nodes, i).half(bit_at(path.bits, at)) {
         None => false,
         Some(j) => {
             let changed = assign(nodes, j, label, rest, hop);
-            if changed {
-                return update_node(nodes, i, node, label, own);
-            }
-            false
+            climb(nodes, i, label, changed)
         }
     }
 }
@@ -469,18 +497,19 @@ fn take(nodes: &mut Nodes) -> u32
 }
 
 /// Makes a half of a node a node, which keeps this, and returns its place.
-pub(crate) fn split(nodes: &mut Nodes, i: usize, node: Node, bit: bool, best: Best) -> usize
+pub(crate) fn split(nodes: &mut Nodes, i: usize, bit: bool, best: Best) -> usize
     requires room { vec_len nodes.old.halves + 1 ≤ vec_capacity nodes.old.halves }
     requires few { vec_len nodes.old.halves + 1 < 2 ^ 32 }
     ensures len { vec_len nodes.new.halves ≤ vec_len nodes.old.halves + 1 }
     ensures capacity { vec_capacity nodes.new.halves ≡ vec_capacity nodes.old.halves }
-    ensures split { (d : ℕ) (name : ℕ → Owner) (n : ℕ) (p : List Bool) → node
-        ≡ cell_at (cells_of nodes.old) i → half_place node bit ≡ None → 1 < d
+    ensures split { (d : ℕ) (name : ℕ → Owner) (n : ℕ) (p : List Bool)
+        → half_place (cell_at (cells_of nodes.old) i) bit ≡ None → 1 < d
         → IsTree d (cells_of nodes.old) name i p → HasSpares (cells_of nodes.old) nodes.old.free name n
         → IsSplit d bit (cells_of nodes.old) (cells_of nodes.new) nodes.new.free name i p result }
     ensures kept { (j : ℕ) → j ≤ vec_len nodes.new.halves
         → best_in nodes.new j ≡ put_at (best_in nodes.old) result best j }
 {
+    let node = read(nodes, i);
     let at = take(nodes);
     let j = at as usize;
     fill(nodes, j, leaf(), best);
@@ -527,7 +556,7 @@ pub(crate) fn grow(nodes: &mut Nodes, i: usize, path: Path, inherited: u16)
     match node.half(bit) {
         Some(j) => grow(nodes, j, rest, hop),
         None => {
-            let j = split(nodes, i, node, bit, Best::one(hop));
+            let j = split(nodes, i, bit, Best::one(hop));
             grow(nodes, j, rest, hop);
         }
     }
@@ -543,8 +572,8 @@ pub(crate) fn climb(nodes: &mut Nodes, i: usize, label: Label, changed: bool) ->
     if !changed {
         return false;
     }
-    let node = read(nodes, i);
-    update_node(nodes, i, node, label, node.hop(label))
+    let own = read(nodes, i).hop(label);
+    update_node(nodes, i, label, own)
 }
 
 /// Sets the hop of one of a path's labels, below a node that inherits the hop from the routes, and makes nodes down to the path:
@@ -570,10 +599,10 @@ pub(crate) fn grow_label<C: Counter>(
     ensures steps { C.count steps.new ≤ C.count steps.old + new_nodes (cells_of nodes.old)
         (path_steps path) i }
 {
-    let node = read(nodes, i);
     if path.left == 0 {
-        return update_node(nodes, i, node, label, Some(hop));
+        return update_node(nodes, i, label, Some(hop));
     }
+    let node = read(nodes, i);
     let at = path.left - 1;
     let rest = Path { left: at, ..path };
     let bit = bit_at(path.bits, at);
@@ -585,7 +614,7 @@ pub(crate) fn grow_label<C: Counter>(
         }
         None => {
             let best = fresh(at, below, label.route(hop));
-            let j = split(nodes, i, node, bit, best);
+            let j = split(nodes, i, bit, best);
             steps.tick();
             let changed = grow_label(nodes, j, rest, below, label, hop, steps);
             climb(nodes, i, label, changed)
@@ -618,10 +647,10 @@ pub(crate) fn set_label(
     ensures held { (d : ℕ) → path.left < d → has_node (path_steps path) (walks_at d (cells_of nodes.old)
         i).nodes ≡ true → IsOk result }
 {
-    let node = read(nodes, i);
     if path.left == 0 {
-        return Ok(update_node(nodes, i, node, label, Some(hop)));
+        return Ok(update_node(nodes, i, label, Some(hop)));
     }
+    let node = read(nodes, i);
     let at = path.left - 1;
     let rest = Path { left: at, ..path };
     match node.half(bit_at(path.bits, at)) {

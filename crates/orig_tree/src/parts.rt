@@ -6,13 +6,14 @@ ghost use Rattle.table_model.specs.Table.{cut};
 ghost use Rattle.table_model.specs.Entries.{of_table};
 ghost use Rattle.table_model.specs.Regions.{entry_at, lift};
 ghost use Rattle.fib_addr.specs.Views.{prefix_as};
-ghost use Rattle.orig_tree.specs.Arena.{cells_of, walks_at};
+ghost use Rattle.orig_tree.specs.Arena.{cells_of, walks_at, route_in};
+ghost use Rattle.std.specs.Option.{is_some};
 ghost use Rattle.orig_tree.specs.Views.{path_steps, FitsWidth};
 ghost use Rattle.orig_tree.specs.Walk.{has_node};
 
 use crate::node::{Label, Nodes, read, tell};
-use crate::path::Path;
-use fib_addr::{EntrySink, Prefix, bit_at};
+use crate::path::{Path, bit_at};
+use fib_addr::{EntrySink, Prefix};
 use std::alloc::AllocError;
 
 /// What a tree has at a path: whether it is a node, and the hop of its own route.
@@ -40,6 +41,25 @@ pub(crate) fn route_at(nodes: &Nodes, i: usize, path: Path) -> Option<u16>
     }
 }
 
+/// The place of a path's node, if it is one.
+fn find(nodes: &Nodes, i: usize, path: Path) -> Option<usize>
+    requires { path.left ≤ 128 }
+    ensures node { (d : ℕ) → path.left < d → is_some result
+        ≡ has_node (path_steps path) (walks_at d (cells_of nodes.now) i).nodes }
+    ensures route { (d : ℕ) → path.left < d → route_in (cells_of nodes.now) result
+        ≡ entry_at (path_steps path) (walks_at d (cells_of nodes.now) i).routes }
+{
+    if path.left == 0 {
+        return Some(i);
+    }
+    let at = path.left - 1;
+    let rest = Path { left: at, ..path };
+    match read(nodes, i).half(bit_at(path.bits, at)) {
+        None => None,
+        Some(j) => find(nodes, j, rest),
+    }
+}
+
 /// What there is at a path, in one walk.
 pub(crate) fn seek(nodes: &Nodes, i: usize, path: Path) -> OwnRoute
     requires { path.left ≤ 128 }
@@ -48,21 +68,15 @@ pub(crate) fn seek(nodes: &Nodes, i: usize, path: Path) -> OwnRoute
     ensures route { (d : ℕ) → path.left < d → result.hop
         ≡ entry_at (path_steps path) (walks_at d (cells_of nodes.now) i).routes }
 {
-    let node = read(nodes, i);
-    if path.left == 0 {
-        return OwnRoute {
-            is_node: true,
-            hop: node.hop(Label::Route),
-        };
-    }
-    let at = path.left - 1;
-    let rest = Path { left: at, ..path };
-    match node.half(bit_at(path.bits, at)) {
+    match find(nodes, i, path) {
         None => OwnRoute {
             is_node: false,
             hop: None,
         },
-        Some(j) => seek(nodes, j, rest),
+        Some(j) => OwnRoute {
+            is_node: true,
+            hop: read(nodes, j).hop(Label::Route),
+        },
     }
 }
 

@@ -12,8 +12,8 @@ ghost use Rattle.orig_tree.specs.Within.{nodes_in};
 use crate::best::Best;
 use crate::counter::Counter;
 use crate::node::{Label, Nodes, best_at, cover, read};
-use crate::path::Path;
-use fib_addr::{HopSet, bit_at};
+use crate::path::{Path, bit_at};
+use fib_addr::HopSet;
 use std::alloc::{AllocError, Global};
 use std::marker::Model;
 

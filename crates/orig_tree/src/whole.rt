@@ -19,7 +19,7 @@ use crate::mend::plan;
 use crate::node::{
     Label, Nodes, assign, grow, grow_label, is_node, reserve, root_alone, set_label,
 };
-use crate::path::{Path, RouteEdit};
+use crate::path::Path;
 use crate::undo::Undo;
 use fib_addr::Family;
 use std::alloc::{AllocError, Global};
@@ -105,11 +105,8 @@ pub(crate) fn insert_route<C: Counter>(
     reserve(nodes, path.left as usize)?;
     let depth = family.width();
     let mut planned = no_changes(alloc, spare, depth)?;
-    let route = RouteEdit {
-        path,
-        hop: Some(hop),
-    };
-    plan(nodes, 0, route, depth, 0, &mut planned, steps)?;
+    planned.set = Some(hop);
+    plan(nodes, 0, path, depth, 0, &mut planned, steps)?;
     commit(nodes, &mut planned.changes);
     grow_label(nodes, 0, path, 0, Label::Route, hop, steps);
     Ok(planned.changes)
@@ -153,8 +150,8 @@ pub(crate) fn update_route<C: Counter>(
 {
     let depth = family.width();
     let mut planned = no_changes(alloc, spare, depth)?;
-    let route = RouteEdit { path, hop: set };
-    plan(nodes, 0, route, depth, 0, &mut planned, steps)?;
+    planned.set = set;
+    plan(nodes, 0, path, depth, 0, &mut planned, steps)?;
     commit(nodes, &mut planned.changes);
     assign(nodes, 0, Label::Route, path, set);
     Ok(planned.changes)

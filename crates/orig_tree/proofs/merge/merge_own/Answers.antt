@@ -20,7 +20,7 @@ returns-in-len1-up-clause-merged c = λ h levels.
     let is : map entry_as E ≡ (P, x.hop.0) ∷ map entry_as rest = ap (map entry_as) (first_rest E x c.in-len1-up.len_at_least c.first-item.is) ∙ ap (λ (p : Prefix). (p, x.hop.0) ∷ map entry_as rest) (same_code x.prefix c.args.at.now c.if-eq.ensures) in
     subst (λ (K : ℕ → Best). Merges c.args.label h levels P (cells_of c.args.nodes.now) (cells_of c.update_node.new.nodes) c.args.nodes.now.free c.update_node.new.nodes.free S K c.args.i (map entry_as E) (map entry_as rest)) (sym (kept_is c.args.nodes.now c.update_node.new.nodes c.update_node.ensures.kept))
     (subst (λ (F : Entries). Merges c.args.label h levels P (cells_of c.args.nodes.now) (cells_of c.update_node.new.nodes) c.args.nodes.now.free c.update_node.new.nodes.free S S c.args.i F (map entry_as rest)) (sym is)
-    (merges_own c.args.label h levels P c.read-node.result _ (cells_of c.args.nodes.now) (cells_of c.update_node.new.nodes) c.args.nodes.now.free c.update_node.new.nodes.free S c.args.i x.hop.0 (map entry_as rest) c.read-node.ensures refl c.update_node.ensures.cells c.update_node.ensures.free))
+    (merges_own c.args.label h levels P _ _ (cells_of c.args.nodes.now) (cells_of c.update_node.new.nodes) c.args.nodes.now.free c.update_node.new.nodes.free S c.args.i x.hop.0 (map entry_as rest) refl refl c.update_node.ensures.cells c.update_node.ensures.free))
 
 pub returns-else-eq-clause-merged : goal.returns-else-eq-clause-merged
 returns-else-eq-clause-merged c = λ h levels. merges_none c.args.label h levels (prefix_as c.args.at.now) (cells_of c.args.nodes.now) c.args.nodes.now.free (best_in c.args.nodes.now) c.args.i (map entry_as c.args.entries.now.now)

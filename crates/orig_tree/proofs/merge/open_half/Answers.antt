@@ -25,7 +25,7 @@ returns c = λ d name n p l t h.
     let gone = sym c.half.ensures ∙ c.in_default.is in
     let t1 = subst (λ (cs : List Node). IsTree d cs name c.args.i p) (sym same.0) t in
     let h1 = subst (λ (k : ℕ). HasSpares mid k name n) (sym same.1) (subst (λ (cs : List Node). HasSpares cs c.args.nodes.now.free name n) (sym same.0) h) in
-    let split = c.split.ensures.split d name n p at gone l t1 h1 in
+    let split = c.split.ensures.split d name n p (ap (λ x. half_place x c.args.bit) (sym at) ∙ gone) l t1 h1 in
     let inside = split_inside d c.args.bit mid new c.split.new.nodes.free name c.args.i p j split in
     let longer = split.keeps.long in
     opened_same d c.args.bit old mid new c.split.new.nodes.free name c.args.i p c.args.inherited (best_in c.args.nodes.now) S1 (best_in c.split.new.nodes) j same.0 c.reserve.ensures.kept

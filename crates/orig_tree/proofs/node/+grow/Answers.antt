@@ -1,10 +1,10 @@
-use Rattle.std.proofs.Common.{◌-◌, [], None, refl, sym, subst, ◌∙◌, arith}
+use Rattle.std.proofs.Common.{◌-◌, [], None, refl, ap, sym, subst, ◌∙◌, arith}
 use Rattle.table_model.specs.Bits.{bits_of}
 use Rattle.table_model.specs.Table.{lpm}
 use Rattle.orig_tree.specs.Edits.{edit}
 use Rattle.orig_tree.specs.declared.best.Best.{Best}
 use Rattle.orig_tree.proofs.Standing.{stands_one}
-use Rattle.orig_tree.specs.Arena.{cells_of}
+use Rattle.orig_tree.specs.Arena.{cells_of, half_place}
 use Rattle.orig_tree.specs.Bests.{best_in, IsRegionBest}
 use Rattle.orig_tree.proofs.Rooms.{room_end, some_room, none_room}
 use Rattle.orig_tree.proofs.Growing.{grown_end, some_grown, none_grown, within_it, split_inside}
@@ -29,7 +29,7 @@ returns-in-Some-clause-best t c = λ d name n p l s h k. some_grown c.args.path.
 
 pub returns-in-None-clause-nodes : goal.returns-in-None-clause-nodes
 returns-in-None-clause-nodes t c = λ d name n p l s h. none_room (cells_of c.args.nodes.now) (cells_of c.split-j.new.nodes) (cells_of c.grow-in-None.new.nodes) c.split-j.new.nodes.free c.grow-in-None.new.nodes.free c.args.i c.split-j.result c.args.path.left c.args.path.bits d name p c.bit_at-bit.result c.if-path-eq0.false c.bit_at-bit.ensures l
-    (c.split-j.ensures.split d name n p (c.read-node.ensures) (sym c.half.ensures ∙ c.in-None.is) (omega (arith, c.if-path-eq0.false)) s h)
+    (c.split-j.ensures.split d name n p (ap (λ x. half_place x c.bit_at-bit.result) (sym c.read-node.ensures) ∙ (sym c.half.ensures ∙ c.in-None.is)) (omega (arith, c.if-path-eq0.false)) s h)
     (λ e name1 m v w u x. c.grow-in-None.ensures.nodes e name1 m v w u x)
 
 pub returns-in-None-clause-best : goal.returns-in-None-clause-best
@@ -38,7 +38,7 @@ returns-in-None-clause-best t c = λ d name n p l s h k.
     let S = best_in c.args.nodes.now in
     let x = c.one.result in
     let gone = sym c.half.ensures ∙ c.in-None.is in
-    let split = c.split-j.ensures.split d name n p (c.read-node.ensures) gone (omega (arith, c.if-path-eq0.false, l)) s h in
+    let split = c.split-j.ensures.split d name n p (ap (λ x. half_place x c.bit_at-bit.result) (sym c.read-node.ensures) ∙ gone) (omega (arith, c.if-path-eq0.false, l)) s h in
     let longer = split.keeps.long in
     let inside = split_inside d c.bit_at-bit.result old (cells_of c.split-j.new.nodes) c.split-j.new.nodes.free name c.args.i p c.split-j.result split in
     none_grown c.args.path.left c.args.path.bits c.args.inherited c.unwrap_or-hop.result c.bit_at-bit.result None c.read-node.result old (cells_of c.split-j.new.nodes) (cells_of c.grow-in-None.new.nodes) c.args.nodes.now.free c.split-j.new.nodes.free c.grow-in-None.new.nodes.free

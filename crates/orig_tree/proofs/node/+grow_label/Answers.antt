@@ -1,8 +1,8 @@
-use Rattle.std.proofs.Common.{ℕ, ◌-◌, Option, [], sym, refl, ◌∙◌, arith, subst}
+use Rattle.std.proofs.Common.{ℕ, ◌-◌, Option, [], sym, ap, refl, ◌∙◌, arith, subst}
 use Rattle.table_model.specs.Bits.{bits_of}
 use Rattle.table_model.specs.Table.{lpm}
 use Rattle.orig_tree.specs.Edits.{edit}
-use Rattle.orig_tree.specs.Arena.{cells_of}
+use Rattle.orig_tree.specs.Arena.{cells_of, half_place}
 use Rattle.orig_tree.specs.Bests.{best_in, IsRegionBest}
 use Rattle.orig_tree.specs.Placed.{route_set}
 use Rattle.orig_tree.proofs.Growing.{within_it, split_inside}
@@ -15,8 +15,8 @@ use Rattle.orig_tree.proofs.node.+grow_label.Goals as goal
 pub returns-then-path-eq0-clause-made : goal.returns-then-path-eq0-clause-made
 returns-then-path-eq0-clause-made g t c = λ d name n p l s h.
     placed_free d c.args.label _ c.args.hop _ _ _ _ name c.args.i p _ _ _ _ _ c.update_node.ensures.free (kept_is c.args.nodes.now c.update_node.new.nodes c.update_node.ensures.kept) (
-    placed_end c.args.label c.args.path.left c.args.path.bits c.args.hop c.read-node.result _ (cells_of c.args.nodes.now) (cells_of c.update_node.new.nodes) c.args.nodes.now.free c.args.i d n name p _ (best_in c.args.nodes.now) c.update_node.result
-    c.read-node.ensures c.if-path-eq0.true refl c.update_node.ensures.cells c.update_node.ensures.same l s h)
+    placed_end c.args.label c.args.path.left c.args.path.bits c.args.hop _ _ (cells_of c.args.nodes.now) (cells_of c.update_node.new.nodes) c.args.nodes.now.free c.args.i d n name p _ (best_in c.args.nodes.now) c.update_node.result
+    refl c.if-path-eq0.true refl c.update_node.ensures.cells c.update_node.ensures.same l s h)
 
 pub returns-in-Some-clause-made : goal.returns-in-Some-clause-made
 returns-in-Some-clause-made g t c = λ d name n p l s h.
@@ -32,7 +32,7 @@ returns-in-None-clause-made g t c = λ d name n p l s h.
     let S = best_in c.args.nodes.now in
     let x = c.fresh-best.result in
     let gone = sym c.half.ensures ∙ c.in-None.is in
-    let split = c.split-j.ensures.split d name n p c.read-node.ensures gone (omega (arith, c.if-path-eq0.false, l)) s h in
+    let split = c.split-j.ensures.split d name n p (ap (λ x. half_place x c.bit_at-bit.result) (sym c.read-node.ensures) ∙ gone) (omega (arith, c.if-path-eq0.false, l)) s h in
     let longer = split.keeps.long in
     let inside = split_inside d c.bit_at-bit.result old (cells_of c.split-j.new.nodes) c.split-j.new.nodes.free name c.args.i p c.split-j.result split in
     placed_free d c.args.label _ c.args.hop _ _ _ _ name c.args.i p _ _ _ _ _ c.climb-in-None.ensures.free (kept_is c.grow_label-changed-in-None.new.nodes c.climb-in-None.new.nodes c.climb-in-None.ensures.kept) (

@@ -12,8 +12,8 @@ use Rattle.orig_tree.proofs.node.+set_label.Goals as goal
 pub returns-then-path-eq0-clause-made : goal.returns-then-path-eq0-clause-made
 returns-then-path-eq0-clause-made t c = λ d name n p l s h.
     placed_free d c.args.label _ c.args.hop _ _ _ _ name c.args.i p _ _ _ _ _ c.update_node.ensures.free (kept_is c.args.nodes.now c.update_node.new.nodes c.update_node.ensures.kept) (
-    placed_end c.args.label c.args.path.left c.args.path.bits c.args.hop c.read-node.result _ (cells_of c.args.nodes.now) (cells_of c.update_node.new.nodes) c.args.nodes.now.free c.args.i d n name p _ (best_in c.args.nodes.now) c.update_node.result
-    c.read-node.ensures c.if-path-eq0.true refl c.update_node.ensures.cells c.update_node.ensures.same l s h)
+    placed_end c.args.label c.args.path.left c.args.path.bits c.args.hop _ _ (cells_of c.args.nodes.now) (cells_of c.update_node.new.nodes) c.args.nodes.now.free c.args.i d n name p _ (best_in c.args.nodes.now) c.update_node.result
+    refl c.if-path-eq0.true refl c.update_node.ensures.cells c.update_node.ensures.same l s h)
 
 pub returns-in_err-changed-in-Some-clause-held : goal.returns-in_err-changed-in-Some-clause-held
 returns-in_err-changed-in-Some-clause-held t c = λ d l there. let no : false ≡ true = held_half (false ≡ true) (cells_of c.args.nodes.now) c.read-node.result c.args.i c.args.path.left c.args.path.bits c.bit_at.result c.half.result d c.read-node.ensures c.half.ensures c.if-path-eq0.false c.bit_at.ensures
