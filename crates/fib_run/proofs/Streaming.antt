@@ -1,6 +1,6 @@
 -- An input that is taken piece by piece.
 use Rattle.std.proofs.Common.{Global, append-nil, drop, subst, ◌≡◌, ℕ, ◌+◌, ◌^◌, ◌<◌, ◌≤◌, true, false, List, [], ◌∷◌, ◌++◌, length, map, take, Option, Some, None, Ok, Err, refl, sym, ap, ◌∙◌, inl, inr, arith, length-append, length-take}
-use Rattle.std.specs.Prelude.{IfSome, IsErrOf, ◌⊎◌}
+use Rattle.std.specs.Prelude.{IfSome, ◌⊎◌}
 use Rattle.std.proofs.lemmas.Bool.{le-leb, lt-leb}
 use Rattle.route_model.specs.Events.{Elem, Event}
 use Rattle.printed_text.specs.Rows.{Announced, Vrp}
