@@ -2,6 +2,7 @@ pub mod Set_bits
 pub mod Like
 pub mod Agree
 pub mod Same
+pub mod Beside
 pub mod Needed
 pub mod Copied
 pub mod Excepting
@@ -17,6 +18,7 @@ pub mod Sharing
 pub mod Word_copy
 pub mod Word_row
 pub mod Slot_copy
+pub mod Old_words
 pub mod Held
 pub mod Whole
 pub mod Asking

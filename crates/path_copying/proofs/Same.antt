@@ -122,10 +122,3 @@ pub child_read : (nodes : List Node) (N : ℕ → Bool) (leaves : List ℕ) (L :
 child_read nodes N leaves L n d g v m x fill a e q =
     let is : x ≡ node_at nodes (n.base1 + rank_of n.vector (v + 1) - 1) = q ∙ (ap (λ i. get_or nodes (n.base1 + i - 1) fill) e ∙ default_same nodes (n.base1 + rank_of n.vector (v + 1) - 1) fill blank a.within) in
     subst (λ (y : Node). StandsIn a.strides nodes N leaves L y (d - 6) (slot d g v)) (sym is) a.stands
-
--- ---- of the region that is gone down to
-pub child_alike : (d v b : ℕ) (f p g : List Bool → ℕ) → b ≡ d - 6 → p ≡ slot d f v → SameAnswers (d - 6) (slot d f v) g → SameAnswers b p g
-child_alike d v b f p g e q a x l = ap (λ (h : List Bool → ℕ). h x) q ∙ a x (l ∙ e)
-
-pub alike_child : (d v b : ℕ) (f p g : List Bool → ℕ) → b ≡ d - 6 → p ≡ slot d f v → SameAnswers b p g → SameAnswers (d - 6) (slot d f v) g
-alike_child d v b f p g e q a x l = ap (λ (h : List Bool → ℕ). h x) (sym q) ∙ a x (l ∙ sym e)

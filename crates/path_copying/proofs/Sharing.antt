@@ -12,7 +12,7 @@ use Rattle.poptrie_build.specs.Stands.{BySlot, IsLeaf, node_at}
 use Rattle.poptrie_build.specs.Build.{StandsIn}
 use Rattle.poptrie_build.specs.declared.node.Node.{Node}
 use Rattle.poptrie_build.proofs.Counting.{canonical_same, no_nodes, no_leaves}
-use Rattle.path_copying.specs.Alike.{SameAnswers, IsTrieNode}
+use Rattle.path_copying.specs.Alike.{SameAnswers}
 use Rattle.path_copying.specs.Kids.{IsKid, StandsAs, kid_arrays, kid_leaf_arrays}
 use Rattle.path_copying.specs.Changes.{Part, Replaces}
 use Rattle.path_copying.proofs.Agree.{one_alike, slot_alike, slots_alike, need_alike, need_leaves_alike}
@@ -69,10 +69,6 @@ kid_bits nodes leaves was node d is (k, g, s) = some k (subst (λ (z : Option No
     some : (j : ℕ) → StandsIn j nodes.cells (is_out nodes.free) leaves.cells (is_out leaves.free) node d g → 0 < d
     some zero q = absurd q
     some (suc j) q = mixed_bits d g q.0
-
-pub kid_is_node : (nodes : Space Node) (leaves : Space ℕ) (was : Option Node) (node : Node) (d b : ℕ) → was ≡ Some node → b ≡ d → IsKid nodes leaves was d → IsTrieNode nodes.cells leaves.cells node b
-kid_is_node nodes leaves was node d b is e (k, g, s) =
-    (k, is_out nodes.free, is_out leaves.free, g, subst (λ (n : ℕ). StandsIn k nodes.cells (is_out nodes.free) leaves.cells (is_out leaves.free) node n g) (sym e) (subst (λ (z : Option Node). StandsAs k nodes.cells (is_out nodes.free) leaves.cells (is_out leaves.free) z d g) is s))
 
 pub replaces_gone : (nodes : Space Node) (nb nb2 : Held) (leaves : Space ℕ) (lb lb2 : Held) (was : Option Node) (node : Node) (b d h : ℕ) (f : List Bool → ℕ) → was ≡ Some node → b ≡ d → one_answer d f ≡ Some h → ((leaves : Space ℕ) (f : List Bool → ℕ) (h : ℕ) → one_answer b f ≡ Some h → Replaces nodes nb leaves lb (Some node) nodes nb2 leaves lb2 None b f) → Replaces nodes nb leaves lb was nodes nb2 leaves lb2 None d f
 replaces_gone nodes nb nb2 leaves lb lb2 was node b d h f is e one gone =

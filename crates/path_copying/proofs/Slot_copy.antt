@@ -14,10 +14,9 @@ use Rattle.poptrie_build.specs.Stands.{blank}
 use Rattle.poptrie_build.specs.declared.node.Node.{Node}
 use Rattle.poptrie_build.proofs.Slotting.{double, low_bits, high_bits}
 use Rattle.path_copying.specs.declared.slots.Store.{Store}
-use Rattle.path_copying.specs.Changes.{Gains}
-use Rattle.path_copying.specs.Words.{IsWord, WordPart, ReplacesWord}
+use Rattle.path_copying.specs.Words.{WordPart, ReplacesWord}
 use Rattle.path_copying.specs.Stores.{stored, SlotsAscend, AreStores, slots_under, ReplacesWords}
-use Rattle.path_copying.proofs.Word_row.{word_stays, words_next, words_same}
+use Rattle.path_copying.proofs.Word_row.{words_next, words_same}
 
 pub on_ok : {E A B : Type 0} (r : Result (Unit {0}) E) → OnOk r A → (A → B) → OnOk r B
 on_ok (Ok x) a f = f a
@@ -165,6 +164,3 @@ halves_copied n0 n1 n2 nb0 nb1 nb2 l0 l1 l2 lb0 lb1 lb2 w0 w1 w2 first next i j 
     let twice : 2 ^ suc j ≡ 2 ^ j + 2 ^ j = double j in
     words_same k n d n2 l2 w2 w2 (slots_under (first + 2 ^ j) j (side true f) (slots_under first j (side false f) h)) (slots_under first (suc j) f h) (nb2.replaced ++ x) (lb2.replaced ++ y) m m2 (λ u l. refl) (λ u l. under_halves first j f h u)
     (high k n (slots_under first j (side false f) h) x y m m2 (omega (arith, le, twice)) few (low k n h x y m m2 (omega (arith, le, twice)) few row)))
-
-pub word_gained : (nodes nodes2 : Space Node) (nb nb2 : Held) (leaves leaves2 : Space ℕ) (lb lb2 : Held) (w d e : ℕ) → d ≡ e → Gains blank nodes nb nodes2 nb2 → Gains 0 leaves lb leaves2 lb2 → IsWord nodes leaves w d → IsWord nodes2 leaves2 w e
-word_gained nodes nodes2 nb nb2 leaves leaves2 lb lb2 w d e q a b (k, g, s) = subst (λ (z : ℕ). IsWord nodes2 leaves2 w z) q (k, g, word_stays k nodes nodes2 leaves leaves2 w d g a.keeps b.keeps s)

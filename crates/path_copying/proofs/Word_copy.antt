@@ -20,9 +20,10 @@ use Rattle.poptrie_build.specs.Build.{StandsIn, WordIn}
 use Rattle.poptrie_build.specs.Arrays.{node_arrays, leaf_arrays}
 use Rattle.poptrie_build.specs.declared.node.Node.{Node}
 use Rattle.poptrie_build.proofs.Carry.{carry}
-use Rattle.path_copying.specs.Kids.{IsKid, StandsAs, kid_arrays, kid_leaf_arrays}
+use Rattle.path_copying.specs.Ways.{IsOldKid, IsOldNode, IsOldWord}
+use Rattle.path_copying.specs.Kids.{StandsAs, kid_arrays, kid_leaf_arrays}
 use Rattle.path_copying.specs.Changes.{Part, Replaces}
-use Rattle.path_copying.specs.Alike.{SameAnswers, IsTrieNode}
+use Rattle.path_copying.specs.Alike.{SameAnswers}
 use Rattle.path_copying.specs.Written.{WritesCells}
 use Rattle.path_copying.proofs.Agree.{one_alike, need_alike, need_leaves_alike}
 use Rattle.path_copying.proofs.Sharing.{stands_in_alike}
@@ -64,15 +65,15 @@ pub leaves_none : (k : ℕ) (nodes : List Node) (w : ℕ) → nat_lt w 214748364
 leaves_none k nodes w e = ap (λ b. let r : List Array = cond b (leaf_arrays k nodes (node_at nodes w)) [] in r) e
 
 -- what the code asks of the word's node
-pub word_kid : (nodes : Space Node) (leaves : Space ℕ) (w d : ℕ) → IsWord nodes leaves w d → IsKid nodes leaves (node_of nodes.cells w) d
-word_kid nodes leaves w d (k, g, s) = by (one_answer d g) refl s
+pub word_kid : (nodes : Space Node) (leaves : Space ℕ) (w : ℕ) (p : List Bool) (d : ℕ) (f : List Bool → ℕ) → IsOldWord nodes leaves w p d f → IsOldKid nodes leaves (node_of nodes.cells w) p d f
+word_kid nodes leaves w p d f (k, g, s, beside) = by (one_answer d g) refl s
   where
-    by : (x : Option ℕ) → one_answer d g ≡ x → BySlot x ((w < 2 ^ 31) × (is_out nodes.free w ≡ true) × (w < length nodes.cells) × StandsIn k nodes.cells (is_out nodes.free) leaves.cells (is_out leaves.free) (node_at nodes.cells w) d g) (λ h. (h < 2 ^ 16) × (w ≡ 2 ^ 31 + h)) → IsKid nodes leaves (node_of nodes.cells w) d
-    by None e t = (k, g, subst (λ (z : Option Node). StandsAs k nodes.cells (is_out nodes.free) leaves.cells (is_out leaves.free) z d g) (sym (node_some nodes.cells w (lt_yes w t.0))) t.3)
-    by (Some h) e t = (k, g, subst (λ (z : Option Node). StandsAs k nodes.cells (is_out nodes.free) leaves.cells (is_out leaves.free) z d g) (sym (node_none nodes.cells w (lt_no w h t.1))) (h, e))
+    by : (x : Option ℕ) → one_answer d g ≡ x → BySlot x ((w < 2 ^ 31) × (is_out nodes.free w ≡ true) × (w < length nodes.cells) × StandsIn k nodes.cells (is_out nodes.free) leaves.cells (is_out leaves.free) (node_at nodes.cells w) d g) (λ h. (h < 2 ^ 16) × (w ≡ 2 ^ 31 + h)) → IsOldKid nodes leaves (node_of nodes.cells w) p d f
+    by None e t = (k, g, subst (λ (z : Option Node). StandsAs k nodes.cells (is_out nodes.free) leaves.cells (is_out leaves.free) z d g) (sym (node_some nodes.cells w (lt_yes w t.0))) t.3, beside)
+    by (Some h) e t = (k, g, subst (λ (z : Option Node). StandsAs k nodes.cells (is_out nodes.free) leaves.cells (is_out leaves.free) z d g) (sym (node_none nodes.cells w (lt_no w h t.1))) (h, e), beside)
 
-pub word_kept : (nodes nodes2 : Space Node) (leaves leaves2 : Space ℕ) (was : Option Node) (d : ℕ) → Keeps blank nodes.cells (is_out nodes.free) nodes2.cells (is_out nodes2.free) → Keeps 0 leaves.cells (is_out leaves.free) leaves2.cells (is_out leaves2.free) → IsKid nodes leaves was d → IsKid nodes2 leaves2 was d
-word_kept nodes nodes2 leaves leaves2 was d a b (k, g, s) = (k, g, stands_kept k nodes nodes2 leaves leaves2 was d g a b s)
+pub word_kept : (nodes nodes2 : Space Node) (leaves leaves2 : Space ℕ) (was : Option Node) (p : List Bool) (d : ℕ) (f : List Bool → ℕ) → Keeps blank nodes.cells (is_out nodes.free) nodes2.cells (is_out nodes2.free) → Keeps 0 leaves.cells (is_out leaves.free) leaves2.cells (is_out leaves2.free) → IsOldKid nodes leaves was p d f → IsOldKid nodes2 leaves2 was p d f
+word_kept nodes nodes2 leaves leaves2 was p d f a b (k, g, s, beside) = (k, g, stands_kept k nodes nodes2 leaves leaves2 was d g a b s, beside)
 
 pub word_within : (nodes : Space Node) (leaves : Space ℕ) (w d : ℕ) → w < 2147483648 → IsWord nodes leaves w d → w < length nodes.cells
 word_within nodes leaves w d l (k, g, s) = by (one_answer d g) s
@@ -261,10 +262,9 @@ word_node_stands k nodes N leaves L w d g node is s = by (one_answer d g) s
     by None t = subst (λ (n : Node). StandsIn k nodes N leaves L n d g) (some_is (node_at nodes w) node (sym (node_some nodes w (lt_yes w t.0)) ∙ is)) t.3
     by (Some h) t = absurd (none_some node (sym (node_none nodes w (lt_no w h t.1)) ∙ is))
 
-pub word_is_node : (nodes : Space Node) (leaves : Space ℕ) (w d b : ℕ) (node : Node) → node_of nodes.cells w ≡ Some node → b ≡ d → IsWord nodes leaves w b → IsTrieNode nodes.cells leaves.cells node d
-word_is_node nodes leaves w d b node is e (k, g, s) =
-    subst (λ (n : ℕ). IsTrieNode nodes.cells leaves.cells node n) e
-    (k, is_out nodes.free, is_out leaves.free, g, word_node_stands k nodes.cells (is_out nodes.free) leaves.cells (is_out leaves.free) w b g node is s)
+pub word_is_node : (nodes : Space Node) (leaves : Space ℕ) (w : ℕ) (p : List Bool) (d : ℕ) (f : List Bool → ℕ) (node : Node) → node_of nodes.cells w ≡ Some node → IsOldWord nodes leaves w p d f → IsOldNode nodes.cells leaves.cells node p d f
+word_is_node nodes leaves w p d f node is (k, g, s, beside) =
+    (k, is_out nodes.free, is_out leaves.free, g, word_node_stands k nodes.cells (is_out nodes.free) leaves.cells (is_out leaves.free) w d g node is s, beside)
 
 pub word_shared : (nodes : Space Node) (nb : Held) (leaves : Space ℕ) (lb : Held) (w d : ℕ) (f : List Bool → ℕ) (node : Node) → node_of nodes.cells w ≡ Some node → ((k : ℕ) (N L : ℕ → Bool) (g : List Bool → ℕ) → StandsIn k nodes.cells N leaves.cells L node d g → SameAnswers d f g) → ReplacesWord nodes nb leaves lb w nodes nb leaves lb w d f
 unfolding trie_nodes trie_leaves

@@ -1,5 +1,6 @@
 pub mod Alike
 pub mod Kids
+pub mod Ways
 pub mod Changes
 pub mod Aside
 pub mod Written

@@ -6,7 +6,7 @@ ghost use Rattle.fib_addr.specs.Answers.{one_answer};
 ghost use Rattle.poptrie_build.specs.Strides.{slots};
 ghost use Rattle.poptrie_build.specs.Strides as strides;
 ghost use Rattle.poptrie_build.specs.Stands.{blank};
-ghost use Rattle.path_copying.specs.Kids.{IsKid};
+ghost use Rattle.path_copying.specs.Ways.{bits_left, IsOldKid, IsOldSlot};
 ghost use Rattle.path_copying.specs.Changes.{Gains, Replaces};
 ghost use Rattle.path_copying.specs.Written.{Matches};
 ghost use Rattle.path_copying.specs.Asks.{MeetsAll, MeetsNotAll, MeetsChanged, MeetsNotChanged};
@@ -15,12 +15,13 @@ use crate::arenas::Arenas;
 use crate::aside::{open_node, set_aside_all};
 use crate::blocks::{Refusal, take_block};
 use crate::children::write_slots;
-use crate::comparing::is_same;
+use crate::comparing::is_child_same;
+use crate::way::Way;
 use fib_addr::Region;
 use poptrie_build::{Node, ask, descend, make_vectors};
 
-/// The node that stands for a region with two different answers, of `bits` more bits, made anew beside the old one; there is none
-/// if the region had one answer.
+/// The node that stands for a region with two different answers, made anew beside the old one; there is none if the region had
+/// one answer. What is beside the way is shared as it is.
 ///
 /// # Errors
 ///
@@ -28,17 +29,18 @@ use poptrie_build::{Node, ask, descend, make_vectors};
 #[cycle(copies)]
 pub fn copy_node<R: Region>(
     region: &R,
-    bits: u8,
+    way: &Way,
     was: Option<Node>,
     arenas: &mut Arenas,
 ) -> Result<Node, Refusal>
     requires mixed { one_answer (R.bits region.now) (R.answers region.now) ≡ None }
-    requires bits { bits ≡ R.bits region.now }
+    requires way { way.now.bits ≡ R.bits region.now }
     requires nodes_sized { IsSized arenas.old.nodes }
     requires leaves_sized { IsSized arenas.old.leaves }
     requires nodes_time { arenas.old.node_blocks.time < 18446744073709551615 }
     requires leaves_time { arenas.old.leaf_blocks.time < 18446744073709551615 }
-    requires was { IsKid arenas.old.nodes arenas.old.leaves was bits }
+    requires was { IsOldKid arenas.old.nodes arenas.old.leaves was (bits_left way.now) (R.bits
+        region.now) (R.answers region.now) }
     ensures nodes { Gains blank arenas.old.nodes arenas.old.node_blocks arenas.new.nodes
         arenas.new.node_blocks }
     ensures leaves { Gains 0 arenas.old.leaves arenas.old.leaf_blocks arenas.new.leaves
@@ -73,7 +75,7 @@ pub fn copy_node<R: Region>(
     };
     for slot in 0..64u8 {
         let at = usize::from(slot);
-        kids[at] = copy_slot(region, bits, slot, kinds[at], kids[at], arenas)?;
+        kids[at] = copy_slot(region, way, slot, kinds[at], kids[at], arenas)?;
     }
     let node = Node {
         vector: made.vector,
@@ -94,7 +96,7 @@ pub fn copy_node<R: Region>(
 #[cycle(copies)]
 fn copy_slot<R: Region>(
     region: &R,
-    bits: u8,
+    way: &Way,
     slot: u8,
     kind: Option<u16>,
     was: Option<Node>,
@@ -102,12 +104,13 @@ fn copy_slot<R: Region>(
 ) -> Result<Option<Node>, Refusal>
     requires slot { slot < 64 }
     requires kind { kind ≡ slots (R.bits region.now) (R.answers region.now) slot }
-    requires bits { bits ≡ R.bits region.now }
+    requires way { way.now.bits ≡ R.bits region.now }
     requires nodes_sized { IsSized arenas.old.nodes }
     requires leaves_sized { IsSized arenas.old.leaves }
     requires nodes_time { arenas.old.node_blocks.time < 18446744073709551615 }
     requires leaves_time { arenas.old.leaf_blocks.time < 18446744073709551615 }
-    requires was { IsKid arenas.old.nodes arenas.old.leaves was (R.bits region.now - 6) }
+    requires was { IsOldSlot arenas.old.nodes arenas.old.leaves was slot (bits_left way.now) (R.bits
+        region.now) (R.answers region.now) }
     ensures nodes { Gains blank arenas.old.nodes arenas.old.node_blocks arenas.new.nodes
         arenas.new.node_blocks }
     ensures leaves { Gains 0 arenas.old.leaves arenas.old.leaf_blocks arenas.new.leaves
@@ -127,7 +130,7 @@ fn copy_slot<R: Region>(
         Some(_hop) => {
             if let Some(node) = was {
                 set_aside_all(
-                    bits - 6,
+                    way.bits - 6,
                     &node,
                     &arenas.nodes,
                     &mut arenas.node_blocks,
@@ -137,13 +140,13 @@ fn copy_slot<R: Region>(
             Ok(None)
         }
         None => {
-            let child = descend(region, slot, 6);
             if let Some(node) = was {
-                if is_same(&child, &node, &arenas.nodes, &arenas.leaves) {
+                if is_child_same(region, way, slot, &node, &arenas.nodes, &arenas.leaves) {
                     return Ok(was);
                 }
             }
-            let node = copy_node(&child, bits - 6, was, arenas)?;
+            let child = descend(region, slot, 6);
+            let node = copy_node(&child, &way.below(6), was, arenas)?;
             Ok(Some(node))
         }
     }

@@ -13,6 +13,7 @@ mod children;
 mod comparing;
 mod copying;
 mod slots;
+mod way;
 mod words;
 
 pub use arenas::Arenas;
@@ -20,4 +21,5 @@ pub use blocks::Refusal;
 pub use comparing::is_same;
 pub use copying::copy_node;
 pub use slots::{Store, copy_slots};
+pub use way::Way;
 pub use words::copy_word;

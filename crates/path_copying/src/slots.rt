@@ -1,15 +1,18 @@
 //! The direct words of a region's slots, made anew beside the old ones.
 
-ghost use Rattle.std.specs.Prelude.{◌≡◌, ℕ, ◌+◌, ◌-◌, ◌^◌, ◌<◌, ◌≤◌, OnOk, IfErr, length, slice_index};
+ghost use Rattle.std.specs.Prelude.{◌≡◌, ℕ, ◌+◌, ◌-◌, ◌^◌, ◌<◌, ◌≤◌, OnOk, IfErr, drop, length, slice_index};
+ghost use Rattle.table_model.specs.Bits.{bits_of};
 ghost use Rattle.buddy_arena.specs.Space.{IsSized};
+ghost use Rattle.fib_addr.specs.Answers.{part};
 ghost use Rattle.poptrie_build.specs.Stands.{blank};
 ghost use Rattle.path_copying.specs.Changes.{Gains};
-ghost use Rattle.path_copying.specs.Words.{IsWord};
+ghost use Rattle.path_copying.specs.Ways.{bits_left, IsOldWord};
 ghost use Rattle.path_copying.specs.Stores.{stored, AreStores, KeepsSlots, ReplacesWords};
 ghost use Rattle.path_copying.specs.Asks.{MeetsSlots, MeetsNotSlots};
 
 use crate::arenas::Arenas;
 use crate::blocks::Refusal;
+use crate::way::Way;
 use crate::words::copy_word;
 use fib_addr::Region;
 
@@ -30,15 +33,15 @@ pub struct Store {
 /// Out of memory, or a block is refused. What was taken is listed, and what was to be replaced too.
 pub fn copy_slots<R: Region>(
     region: &R,
-    bits: u8,
+    way: &Way,
     depth: u8,
     first: u32,
     words: &[u32],
     arenas: &mut Arenas,
     stores: &mut Vec<Store>,
 ) -> Result<(), Refusal>
-    requires bits { bits ≡ R.bits region.now }
-    requires depth { depth ≤ bits }
+    requires way { way.now.bits ≡ R.bits region.now }
+    requires depth { depth ≤ way.now.bits }
     requires shallow { depth ≤ 18 }
     requires few { length words.now ≤ 2 ^ 18 }
     requires many { first + 2 ^ depth ≤ length words.now }
@@ -46,8 +49,9 @@ pub fn copy_slots<R: Region>(
     requires leaves_sized { IsSized arenas.old.leaves }
     requires nodes_time { arenas.old.node_blocks.time < 18446744073709551615 }
     requires leaves_time { arenas.old.leaf_blocks.time < 18446744073709551615 }
-    requires words { (v : ℕ) → first ≤ v → v < first + 2 ^ depth → IsWord arenas.old.nodes
-        arenas.old.leaves (slice_index words.now v) (bits - depth) }
+    requires words { (v : ℕ) → v < 2 ^ depth → IsOldWord arenas.old.nodes arenas.old.leaves
+        (slice_index words.now (first + v)) (drop depth (bits_left way.now)) (R.bits region.now
+        - depth) (part (bits_of depth v) (R.answers region.now)) }
     requires stores { AreStores words.now stores.old.items first }
     ensures nodes { Gains blank arenas.old.nodes arenas.old.node_blocks arenas.new.nodes
         arenas.new.node_blocks }
@@ -69,7 +73,7 @@ pub fn copy_slots<R: Region>(
 {
     if depth == 0 {
         let word = words[first as usize];
-        let new = copy_word(region, bits, word, arenas)?;
+        let new = copy_word(region, way, word, arenas)?;
         if new != word {
             stores.reserve(1)?;
             stores.push_reserved(Store {
@@ -82,7 +86,7 @@ pub fn copy_slots<R: Region>(
     let below = depth - 1;
     copy_slots(
         &region.half(false),
-        bits - 1,
+        &way.below(1),
         below,
         first,
         words,
@@ -91,7 +95,7 @@ pub fn copy_slots<R: Region>(
     )?;
     copy_slots(
         &region.half(true),
-        bits - 1,
+        &way.below(1),
         below,
         first + (1 << below),
         words,

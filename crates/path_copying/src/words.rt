@@ -7,6 +7,7 @@ ghost use Rattle.poptrie_build.specs.Stands.{blank};
 ghost use Rattle.path_copying.specs.Changes.{Gains};
 ghost use Rattle.path_copying.specs.Aside.{OnlyAside};
 ghost use Rattle.path_copying.specs.Words.{IsWord, node_of, own_array, ReplacesWord, KeepsWord};
+ghost use Rattle.path_copying.specs.Ways.{bits_left, IsOldWord};
 ghost use Rattle.path_copying.specs.Asks.{MeetsWord, MeetsNotWord, MeetsChangedWord, MeetsNotChangedWord};
 
 use crate::arenas::Arenas;
@@ -14,6 +15,7 @@ use crate::aside::set_aside_all;
 use crate::blocks::{Refusal, take_block};
 use crate::comparing::is_same;
 use crate::copying::copy_node;
+use crate::way::Way;
 use buddy_arena::{Arena, Block, Blocks, put};
 use fib_addr::{Hop, Region};
 use poptrie_build::{DirectWord, Node, hop_word};
@@ -88,17 +90,18 @@ fn leave_word(
 /// As `copy_node`'s.
 fn make_word<R: Region>(
     region: &R,
-    bits: u8,
+    way: &Way,
     word: u32,
     arenas: &mut Arenas,
 ) -> Result<u32, Refusal>
     requires mixed { one_answer (R.bits region.now) (R.answers region.now) ≡ None }
-    requires bits { bits ≡ R.bits region.now }
+    requires way { way.now.bits ≡ R.bits region.now }
     requires nodes_sized { IsSized arenas.old.nodes }
     requires leaves_sized { IsSized arenas.old.leaves }
     requires nodes_time { arenas.old.node_blocks.time < 18446744073709551615 }
     requires leaves_time { arenas.old.leaf_blocks.time < 18446744073709551615 }
-    requires word { IsWord arenas.old.nodes arenas.old.leaves word bits }
+    requires word { IsOldWord arenas.old.nodes arenas.old.leaves word (bits_left way.now) (R.bits
+        region.now) (R.answers region.now) }
     ensures nodes { Gains blank arenas.old.nodes arenas.old.node_blocks arenas.new.nodes
         arenas.new.node_blocks }
     ensures leaves { Gains 0 arenas.old.leaves arenas.old.leaf_blocks arenas.new.leaves
@@ -117,29 +120,29 @@ fn make_word<R: Region>(
         Ok(place) => place,
         Err(refused) => return Err(Refusal::of_nodes(refused)),
     };
-    let node = copy_node(region, bits, was, arenas)?;
+    let node = copy_node(region, way, was, arenas)?;
     put(&mut arenas.nodes, place, node);
     Ok(place)
 }
 
-/// The direct word of a slot's region, of `bits` more bits, beside the old one: as it was if no address of the slot gets
-/// another answer.
+/// The direct word of a slot's region beside the old one: as it was if no address of the slot gets another answer.
 ///
 /// # Errors
 ///
 /// As `copy_node`'s.
 pub fn copy_word<R: Region>(
     region: &R,
-    bits: u8,
+    way: &Way,
     word: u32,
     arenas: &mut Arenas,
 ) -> Result<u32, Refusal>
-    requires bits { bits ≡ R.bits region.now }
+    requires way { way.now.bits ≡ R.bits region.now }
     requires nodes_sized { IsSized arenas.old.nodes }
     requires leaves_sized { IsSized arenas.old.leaves }
     requires nodes_time { arenas.old.node_blocks.time < 18446744073709551615 }
     requires leaves_time { arenas.old.leaf_blocks.time < 18446744073709551615 }
-    requires word { IsWord arenas.old.nodes arenas.old.leaves word bits }
+    requires word { IsOldWord arenas.old.nodes arenas.old.leaves word (bits_left way.now) (R.bits
+        region.now) (R.answers region.now) }
     ensures nodes { Gains blank arenas.old.nodes arenas.old.node_blocks arenas.new.nodes
         arenas.new.node_blocks }
     ensures leaves { Gains 0 arenas.old.leaves arenas.old.leaf_blocks arenas.new.leaves
@@ -157,7 +160,7 @@ pub fn copy_word<R: Region>(
     match region.only() {
         Some(hop) => {
             let word = leave_word(
-                bits,
+                way.bits,
                 word,
                 hop,
                 &arenas.nodes,
@@ -168,11 +171,11 @@ pub fn copy_word<R: Region>(
         }
         None => {
             if let Some(node) = word_node(word, &arenas.nodes) {
-                if is_same(region, &node, &arenas.nodes, &arenas.leaves) {
+                if is_same(region, way, &node, &arenas.nodes, &arenas.leaves) {
                     return Ok(word);
                 }
             }
-            let word = make_word(region, bits, word, arenas)?;
+            let word = make_word(region, way, word, arenas)?;
             Ok(word)
         }
     }

@@ -19,6 +19,7 @@ pub mod Renewed
 pub mod Restored
 pub mod Copied_version
 pub mod Changed_slots
+pub mod Within
 pub mod Taken_back
 pub mod Ready
 pub mod Ticked

@@ -28,7 +28,7 @@ use Rattle.poptrie_build.proofs.Filled.{strides_do}
 use Rattle.path_copying.specs.declared.slots.Store.{Store as Stored}
 use Rattle.path_copying.specs.declared.blocks.Refusal.{Refusal}
 use Rattle.path_copying.specs.Changes.{Gains}
-use Rattle.path_copying.specs.Words.{IsWord, WordRow}
+use Rattle.path_copying.specs.Words.{WordRow}
 use Rattle.path_copying.specs.Stores.{stored, SlotsAscend, AreStores}
 use Rattle.path_copying.specs.Asks.{Ask, StandFor, MeetsInTurn, IsOutOfBlocks}
 use Rattle.path_copying.proofs.Retiring.{asks_left, slots_places}
@@ -133,11 +133,6 @@ merged_by f s p F L M N e few is merges u l a n = by (begins (take s p.bits) (bi
     by false q = got ∙ ap (λ (b : Bool). match_in (cond b M L) at) q
 
 -- ---- the words of a version stand
-pub words_are : (f : Family) (s : ℕ) (nodes : Space Node) (leaves : Space ℕ) (direct : List ℕ) (L : Entries) (x y : List Array) (d : ℕ) → d ≡ rest f s → IsVersion f s nodes leaves direct L x y → (v : ℕ) → v < 2 ^ s → IsWord nodes leaves (slice_index direct v) d
-words_are f s nodes leaves direct L x y d e ver v l =
-    let row = version_row f s nodes leaves direct L x y ver (strides (rest f s)) (omega arith) in
-    subst (λ (n : ℕ). IsWord nodes leaves (slice_index direct v) n) (sym e) (strides (rest f s), part (bits_of s v) (all_answers f L), row.stands v l)
-
 words_stand_for : (f : Family) (s : ℕ) (nodes : Space Node) (leaves : Space ℕ) (direct : List ℕ) (L : Entries) (x y : List Array) → IsVersion f s nodes leaves direct L x y → StandFor (strides (rest f s)) s (rest f s) 0 nodes leaves direct (λ u. part (bits_of s u) (all_answers f L))
 words_stand_for f s nodes leaves direct L x y ver v l =
     let row = version_row f s nodes leaves direct L x y ver (strides (rest f s)) (omega arith) in

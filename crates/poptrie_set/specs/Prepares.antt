@@ -1,8 +1,9 @@
 -- An update that is made ready.
-use Rattle.std.specs.Prelude.{◌≡◌, ◌↔◌, ℕ, ◌^◌, ◌<◌, List, [], ◌∷◌, Bool, false, cond, take}
+use Rattle.std.specs.Prelude.{◌≡◌, ◌↔◌, ℕ, ◌^◌, ◌<◌, List, [], ◌∷◌, Bool, false, cond, length, take}
 use Rattle.std.specs.List.{AllByRecursion}
 use Rattle.table_model.specs.Address.{Address, Prefix, IsAddress, contains}
 use Rattle.table_model.specs.Bits.{bits_of, begins}
+use Rattle.table_model.specs.Width.{width}
 use Rattle.table_model.specs.declared.family.Family.{Family}
 use Rattle.table_model.specs.Entries.{Entries, match_in}
 use Rattle.buddy_arena.specs.Space.{Space, IsSized}
@@ -19,6 +20,10 @@ use Rattle.poptrie_set.specs.declared.reasons.NotReady.{NotReady}
 -- the addresses that don't begin with the prefix get the same from both
 abbrev pub AgreeOutside : Prefix → Entries → Entries → Type 0
 AgreeOutside p L M = (a : Address) → IsAddress a → a.family ≡ p.family → contains p a ≡ false → match_in M a ≡ match_in L a
+
+-- the answers of the addresses that don't begin with the prefix are what the entries give them
+abbrev pub KeepsOutside : Prefix → Entries → (List Bool → ℕ) → Type 0
+KeepsOutside p L f = (a : List Bool) → length a ≡ width p.family → begins p.bits a ≡ false → f a ≡ all_answers p.family L a
 
 -- whether the slot of an address, its first s bits, holds addresses of the prefix
 abbrev pub meets_slot : Prefix → ℕ → Address → Bool

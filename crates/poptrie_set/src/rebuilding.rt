@@ -1,6 +1,6 @@
 //! The direct words of a prefix's slots, made anew beside the old ones.
 
-ghost use Rattle.std.specs.Prelude.{◌≡◌, ℕ, ◌+◌, ◌-◌, ◌^◌, ◌<◌, ◌≤◌, [], IfErr, OnOk, OnErr, length, slice_index};
+ghost use Rattle.std.specs.Prelude.{◌≡◌, ℕ, ◌+◌, ◌-◌, ◌^◌, ◌<◌, ◌≤◌, [], IfErr, OnOk, OnErr, drop, length, slice_index};
 ghost use Rattle.table_model.specs.Bits.{bits_of};
 ghost use Rattle.table_model.specs.Width.{width};
 ghost use Rattle.buddy_arena.specs.Space.{IsSized};
@@ -11,12 +11,12 @@ ghost use Rattle.fib_addr.specs.Views.{prefix_as};
 ghost use Rattle.fib_addr.specs.Answers.{part};
 ghost use Rattle.poptrie_build.specs.Stands.{blank};
 ghost use Rattle.path_copying.specs.Changes.{Gains};
-ghost use Rattle.path_copying.specs.Words.{IsWord};
+ghost use Rattle.path_copying.specs.Ways.{IsOldWord};
 ghost use Rattle.path_copying.specs.Stores.{stored, AreStores};
 ghost use Rattle.poptrie_set.specs.Renewals.{Rebuilds, SetsAside, MeetsRenewal, MeetsNotRenewal, KeepsRenewal, GivesAllBack};
 
 use fib_addr::{Prefix, Region};
-use path_copying::{Arenas, Refusal, Store, copy_slots};
+use path_copying::{Arenas, Refusal, Store, Way, copy_slots};
 
 /// The part of a region whose addresses have these bits next, one at least.
 fn part_of<R: Region>(region: &R, number: u32, depth: u8) -> R
@@ -35,7 +35,8 @@ fn part_of<R: Region>(region: &R, number: u32, depth: u8) -> R
 }
 
 /// Makes the direct words of the slots that have addresses of a prefix anew beside the old ones, for the answers of the region of
-/// all addresses, and lists those that differ.
+/// all addresses, and lists those that differ. Its answers are as they were outside `within`: what is beside the way there isn't
+/// compared.
 ///
 /// # Errors
 ///
@@ -43,20 +44,23 @@ fn part_of<R: Region>(region: &R, number: u32, depth: u8) -> R
 fn rebuild<R: Region>(
     region: &R,
     prefix: &Prefix,
+    within: &Prefix,
     direct_bits: u8,
     words: &[u32],
     arenas: &mut Arenas,
     stores: &mut Vec<Store>,
 ) -> Result<(), Refusal>
     requires bits { R.bits region.now ≡ width prefix.now.family }
+    requires family { within.now.family ≡ prefix.now.family }
     requires few { direct_bits ≤ 18 }
     requires many { length words.now ≡ 2 ^ direct_bits }
     requires nodes_sized { IsSized arenas.old.nodes }
     requires leaves_sized { IsSized arenas.old.leaves }
     requires nodes_time { arenas.old.node_blocks.time < 18446744073709551615 }
     requires leaves_time { arenas.old.leaf_blocks.time < 18446744073709551615 }
-    requires words { (v : ℕ) → v < 2 ^ direct_bits → IsWord arenas.old.nodes arenas.old.leaves
-        (slice_index words.now v) (R.bits region.now - direct_bits) }
+    requires words { (v : ℕ) → v < 2 ^ direct_bits → IsOldWord arenas.old.nodes arenas.old.leaves
+        (slice_index words.now v) (drop direct_bits (prefix_as within.now).bits) (R.bits region.now
+        - direct_bits) (part (bits_of direct_bits v) (R.answers region.now)) }
     requires none { stores.old.items ≡ [] }
     ensures nodes { Gains blank arenas.old.nodes arenas.old.node_blocks arenas.new.nodes
         arenas.new.node_blocks }
@@ -81,16 +85,17 @@ fn rebuild<R: Region>(
         words.now (prefix_as prefix.now).bits direct_bits (R.bits region.now - direct_bits)
         (R.answers region.now) e) }
 {
+    let way = Way::to(within);
     let bits = prefix.family.width();
     let len = prefix.len.min(direct_bits);
     if len == 0 {
-        return copy_slots(region, bits, direct_bits, 0, words, arenas, stores);
+        return copy_slots(region, &way, direct_bits, 0, words, arenas, stores);
     }
     let number = (prefix.bits >> (bits - len)) as u32;
     let depth = direct_bits - len;
     copy_slots(
         &part_of(region, number, len),
-        bits - len,
+        &way.below(len),
         depth,
         number << depth,
         words,
@@ -107,20 +112,23 @@ fn rebuild<R: Region>(
 pub(crate) fn rebuild_or_undo<R: Region>(
     region: &R,
     prefix: &Prefix,
+    within: &Prefix,
     direct_bits: u8,
     words: &[u32],
     arenas: &mut Arenas,
     stores: &mut Vec<Store>,
 ) -> Result<(), Refusal>
     requires bits { R.bits region.now ≡ width prefix.now.family }
+    requires family { within.now.family ≡ prefix.now.family }
     requires few { direct_bits ≤ 18 }
     requires many { length words.now ≡ 2 ^ direct_bits }
     requires nodes_sized { IsSized arenas.old.nodes }
     requires leaves_sized { IsSized arenas.old.leaves }
     requires nodes_time { arenas.old.node_blocks.time < 18446744073709551615 }
     requires leaves_time { arenas.old.leaf_blocks.time < 18446744073709551615 }
-    requires words { (v : ℕ) → v < 2 ^ direct_bits → IsWord arenas.old.nodes arenas.old.leaves
-        (slice_index words.now v) (R.bits region.now - direct_bits) }
+    requires words { (v : ℕ) → v < 2 ^ direct_bits → IsOldWord arenas.old.nodes arenas.old.leaves
+        (slice_index words.now v) (drop direct_bits (prefix_as within.now).bits) (R.bits region.now
+        - direct_bits) (part (bits_of direct_bits v) (R.answers region.now)) }
     requires none { stores.old.items ≡ [] }
     requires nodes_quiet { arenas.old.node_blocks ≡ cancelled arenas.old.node_blocks }
     requires leaves_quiet { arenas.old.leaf_blocks ≡ cancelled arenas.old.leaf_blocks }
@@ -156,7 +164,7 @@ pub(crate) fn rebuild_or_undo<R: Region>(
         (arenas.new.leaf_blocks ≡ arenas.old.leaf_blocks)) }
     ensures no_stores { OnErr result (stores.new.items ≡ []) }
 {
-    let rebuilt = rebuild(region, prefix, direct_bits, words, arenas, stores);
+    let rebuilt = rebuild(region, prefix, within, direct_bits, words, arenas, stores);
     match rebuilt {
         Ok(()) => Ok(()),
         Err(refusal) => {

@@ -109,7 +109,7 @@ impl TrieSet {
     ghost use Rattle.poptrie_set.specs.Cells.{KeepsCells};
     ghost use Rattle.poptrie_set.specs.Reading.{ReadsOn, CanRead, LeadsIn, bits_after};
     ghost use Rattle.poptrie_set.specs.First.{StartsIn, published_in};
-    ghost use Rattle.poptrie_set.specs.Prepares.{AgreeOutside, MergesSlots, StoresJust, GaveBack, AsksRun, AsksRunOut};
+    ghost use Rattle.poptrie_set.specs.Prepares.{AgreeOutside, KeepsOutside, MergesSlots, StoresJust, GaveBack, AsksRun, AsksRunOut};
     ghost use Rattle.poptrie_set.specs.declared.trie_set.Oldest.TheVariants as Oldest;
 
     /// A trie that answers none everywhere, at time 0, with arenas of these orders.
@@ -290,9 +290,69 @@ impl TrieSet {
         ensures cells { KeepsCells 0 self.old self.new }
         ensures fits { (os : List Reader) → FitsIn self.old os → FitsIn self.new os }
     {
+        // it shows some table
+        self.arenas_law();
+        self.prepare_within(region, prefix, &Prefix::whole(prefix.family))
+    }
+
+    /// Makes an update ready as `prepare` does, for a new table that gives the addresses outside `within` what they get now. It
+    /// goes down the way there and compares nothing beside it: it costs the length of the way and what `within` covers, however
+    /// few direct bits there are.
+    ///
+    /// # Errors
+    ///
+    /// As `prepare`'s.
+    pub fn prepare_within<R: Region>(
+        &mut self,
+        region: &R,
+        prefix: &Prefix,
+        within: &Prefix,
+    ) -> Result<Pending, NotReady>
+        requires family { prefix.now.family ≡ self.old.family }
+        requires bits { R.bits region.now ≡ width self.old.family }
+        requires quiet { self.old.pending ≡ false }
+        requires time { self.old.time < 18446744073709551615 }
+        requires within { within.now.family ≡ self.old.family }
+        requires outside { (L : Entries) × ShowsIn self.old L L
+            × KeepsOutside (prefix_as within.now) L (R.answers region.now) }
+        ensures shape { HasSizesOf self.old self.new }
+        ensures kept { (self.new.words ≡ self.old.words) × (self.new.time ≡ self.old.time) }
+        ensures retired { (self.new.nodes.retired ≡ self.old.nodes.retired)
+            × (self.new.leaves.retired ≡ self.old.leaves.retired) }
+        ensures token { IfOk result (λ p. IsTokenIn p self.new × (self.new.made ≡ 0)) }
+        ensures quiet { OnErr result (self.new.pending ≡ false) }
+        ensures shows { OnOk result ((L M : Entries) → ShowsIn self.old L L
+            → R.answers region.now ≡ all_answers self.old.family M
+            → AgreeOutside (prefix_as prefix.now) L M → ShowsIn self.new L M) }
+        ensures merged { OnOk result ((L M N : Entries) → ShowsIn self.old L L
+            → R.answers region.now ≡ all_answers self.old.family M
+            → MergesSlots (prefix_as prefix.now) self.old.direct_bits L M N
+            → ShowsIn self.new L N) }
+        ensures changes { OnOk result ((L M : Entries) → ShowsIn self.old L L
+            → R.answers region.now ≡ all_answers self.old.family M
+            → AgreeOutside (prefix_as prefix.now) L M
+            → StoresJust self.old.family self.old.direct_bits L M self.new.stores) }
+        ensures still { OnErr result ((L M : Entries) → ShowsIn self.old L M
+            → ShowsIn self.new L M) }
+        ensures ready { OnOk result (IsReadyFrom self.old self.new) }
+        ensures back { OnErr result (IsAsBefore self.old self.new) }
+        ensures free { OnErr result (
+            (self.new.nodes.space.free ≡ self.old.nodes.space.free)
+            × (self.new.leaves.space.free ≡ self.old.leaves.space.free)) }
+        ensures asks { OnOk result ((L M : Entries) → ShowsIn self.old L L
+            → R.answers region.now ≡ all_answers self.old.family M
+            → AgreeOutside (prefix_as prefix.now) L M
+            → AsksRun self.old self.new L M) }
+        ensures refused { IfErr result (λ e. (L M : Entries) → ShowsIn self.old L L
+            → R.answers region.now ≡ all_answers self.old.family M
+            → AgreeOutside (prefix_as prefix.now) L M → AsksRunOut self.old L M e) }
+        ensures cells { KeepsCells 0 self.old self.new }
+        ensures fits { (os : List Reader) → FitsIn self.old os → FitsIn self.new os }
+    {
         let made = rebuild_or_undo(
             region,
             prefix,
+            within,
             self.direct_bits,
             &self.words,
             &mut self.arenas,

@@ -1,11 +1,13 @@
-use Rattle.std.proofs.Common.{rules, arith, ◌≡◌, ◌+◌, ◌-◌, ◌*◌, ◌<◌, Option, Some, None, ℕ, set, sym, ap, ◌∙◌, subst}
+use Rattle.std.proofs.Common.{rules, arith, ◌≡◌, ◌+◌, ◌-◌, ◌*◌, ◌<◌, Option, Some, None, ℕ, List, Bool, set, refl, sym, ap, ◌∙◌, subst}
 use Rattle.std.proofs.lemmas.Result.{err_from_is_err_and}
 use Rattle.poptrie_build.specs.Strides.{slots, slot}
 use Rattle.poptrie_build.specs.Stands.{blank}
 use Rattle.poptrie_build.specs.Making.{slot_kind}
 use Rattle.poptrie_build.proofs.Counting.{canonical_same, children_same, runs_same, kinds_agree, six_bits, descended_slot}
 use Rattle.poptrie_build.proofs.Going.{child_none}
-use Rattle.path_copying.specs.Kids.{IsKid, kid_in}
+use Rattle.path_copying.specs.Kids.{kid_in}
+use Rattle.path_copying.specs.Ways.{bits_left, IsOldSlot}
+use Rattle.path_copying.proofs.Beside.{old_below, slot_child, slot_kid}
 use Rattle.path_copying.specs.Changes.{Replaces}
 use Rattle.path_copying.specs.Written.{Matches, WritesCells}
 use Rattle.poptrie_build.specs.declared.node.Node.{Node}
@@ -14,8 +16,8 @@ use Rattle.path_copying.proofs.Renewing.{copying_start, copying_next, copying_en
 use Rattle.path_copying.specs.Asks.{MeetsAll, MeetsNotAll, MeetsNotChanged}
 use Rattle.path_copying.specs.declared.blocks.Refusal.{Refusal}
 use Rattle.path_copying.proofs.Asked.{Changes, asked_start, asked_next, asked_end, asked_out, children_out, leaves_refused, meets_uniform, meets_same, meets_copied, refused_copied, changes_node, changes_none}
-use Rattle.path_copying.proofs.Sharing.{replaces_shared, replaces_nothing, replaces_gone, replaces_at, kid_bits, kid_is_node}
-use Rattle.path_copying.proofs.copying.+copies.Goals.{copy_slot-in-Some-was-2+else-is_same, copy_slot-in_default-was}
+use Rattle.path_copying.proofs.Sharing.{replaces_shared, replaces_nothing, replaces_gone, replaces_at, kid_bits}
+use Rattle.path_copying.proofs.copying.+copies.Goals.{copy_slot-in-Some-was-2+else-is_child_same, copy_slot-in_default-was}
 use Rattle.path_copying.proofs.copying.+copies.Goals as goal
 
 pub copy_node-returns-in_err-open_node-clause-nodes : goal.copy_node-returns-in_err-open_node-clause-nodes
@@ -44,8 +46,8 @@ copy_node-returns-in-Err-take_block-clause-leaves g t c =
 
 pub copy_node-loop-slot-init : goal.copy_node-loop-slot-init
 copy_node-loop-slot-init g t c = (
-  copying_start (g.R.Region.bits c.args.region.now) (g.R.Region.answers c.args.region.now) c.ask.new.slots c.args.was c.args.arenas.now.nodes c.args.arenas.now.node_blocks c.args.arenas.now.leaves c.args.arenas.now.leaf_blocks c.open_node.new.node_blocks c.open_node.new.leaf_blocks c.take_block.new.arena c.take_block.new.blocks c.take_block-2.new.arena c.take_block-2.new.blocks c.open_node.new.kids c.in-Ok.base c.make_vectors-made.result.nodes c.in-Ok-take_block.base c.make_vectors-made.result.leaves
-      c.open_node.ensures.many (subst (λ (n : ℕ). IsKid c.args.arenas.now.nodes c.args.arenas.now.leaves c.args.was n) c.requires.bits c.requires.was) c.open_node.ensures.kids c.in_ok-open_node.ensures.children c.in_ok-open_node.ensures.leaf (c.take_block.ensures.gains blank) (c.take_block-2.ensures.gains 0) c.take_block.ensures.replaced c.take_block-2.ensures.replaced c.take_block.ensures.cells
+  copying_start (g.R.Region.bits c.args.region.now) (bits_left c.args.way.now) (g.R.Region.answers c.args.region.now) c.ask.new.slots c.args.was c.args.arenas.now.nodes c.args.arenas.now.node_blocks c.args.arenas.now.leaves c.args.arenas.now.leaf_blocks c.open_node.new.node_blocks c.open_node.new.leaf_blocks c.take_block.new.arena c.take_block.new.blocks c.take_block-2.new.arena c.take_block-2.new.blocks c.open_node.new.kids c.in-Ok.base c.make_vectors-made.result.nodes c.in-Ok-take_block.base c.make_vectors-made.result.leaves
+      c.open_node.ensures.many c.requires.was c.open_node.ensures.kids c.in_ok-open_node.ensures.children c.in_ok-open_node.ensures.leaf (c.take_block.ensures.gains blank) (c.take_block-2.ensures.gains 0) c.take_block.ensures.replaced c.take_block-2.ensures.replaced c.take_block.ensures.cells
       c.in-Ok.ensures.takes c.in-Ok-take_block.ensures.takes c.in-Ok.ensures.aligned c.in-Ok-take_block.ensures.aligned c.in-Ok.ensures.left c.in-Ok-take_block.ensures.left,
   asked_start (g.R.Region.bits c.args.region.now) (g.R.Region.answers c.args.region.now) c.make_vectors-made.result.nodes c.make_vectors-made.result.leaves c.args.was c.args.arenas.now.nodes c.args.arenas.now.leaves c.take_block.new.arena c.take_block-2.new.arena c.open_node.new.kids c.open_node.ensures.kids (c.take_block.ensures.gains blank).keeps (c.take_block-2.ensures.gains 0).keeps
       (c.take_block.ensures.gains blank).order (c.take_block-2.ensures.gains 0).order c.in-Ok.ensures.met c.in-Ok-take_block.ensures.met,
@@ -79,12 +81,12 @@ copy_node-copy_slot-requires g t c κs within =
           (
             ap (slot_kind c.ask.new.slots) c.from-at.ensures ∙ a c.loop-slot.slot c.loop-slot-test.true,
             (
-              c.requires.bits,
+              c.requires.way,
               (
                 w.nodes.sized,
                 (
                   w.leaves.sized,
-                  ((let x = c.take_block.ensures.gains blank in omega (arith, w.nodes.time, x.time, c.open_node.ensures.nodes.time, c.requires.nodes_time)), ((let x = c.take_block-2.ensures.gains 0 in omega (arith, w.leaves.time, x.time, c.open_node.ensures.leaves.time, c.requires.leaves_time)), subst (λ (i : ℕ). IsKid c.loop-slot.arenas.nodes c.loop-slot.arenas.leaves (kid_in c.loop-slot.kids i) (g.R.Region.bits c.args.region.now - 6)) (sym c.from-at.ensures) (w.rest c.loop-slot.slot (omega arith) c.loop-slot-test.true))),
+                  ((let x = c.take_block.ensures.gains blank in omega (arith, w.nodes.time, x.time, c.open_node.ensures.nodes.time, c.requires.nodes_time)), ((let x = c.take_block-2.ensures.gains 0 in omega (arith, w.leaves.time, x.time, c.open_node.ensures.leaves.time, c.requires.leaves_time)), subst (λ (i : ℕ). IsOldSlot c.loop-slot.arenas.nodes c.loop-slot.arenas.leaves (kid_in c.loop-slot.kids i) c.loop-slot.slot (bits_left c.args.way.now) (g.R.Region.bits c.args.region.now) (g.R.Region.answers c.args.region.now)) (sym c.from-at.ensures) (w.rest c.loop-slot.slot (omega arith) c.loop-slot-test.true))),
                 ),
               ),
             ),
@@ -96,7 +98,7 @@ copy_node-copy_slot-requires g t c κs within =
 pub copy_node-loop-slot-preserved : goal.copy_node-loop-slot-preserved
 copy_node-loop-slot-preserved g t c =
     let w = c.loop-slot.invariant.0 in (
-      copying_next (g.R.Region.bits c.args.region.now) (g.R.Region.answers c.args.region.now) c.ask.new.slots c.args.was c.args.arenas.now.nodes c.args.arenas.now.node_blocks c.args.arenas.now.leaves c.args.arenas.now.leaf_blocks c.take_block.new.arena c.take_block.new.blocks c.take_block-2.new.arena c.take_block-2.new.blocks
+      copying_next (g.R.Region.bits c.args.region.now) (bits_left c.args.way.now) (g.R.Region.answers c.args.region.now) c.ask.new.slots c.args.was c.args.arenas.now.nodes c.args.arenas.now.node_blocks c.args.arenas.now.leaves c.args.arenas.now.leaf_blocks c.take_block.new.arena c.take_block.new.blocks c.take_block-2.new.arena c.take_block-2.new.blocks
           c.loop-slot.arenas.nodes c.loop-slot.arenas.node_blocks c.loop-slot.arenas.leaves c.loop-slot.arenas.leaf_blocks c.loop-slot.kids (set c.loop-slot.kids c.from-at.result c.in_ok-kids.field-0) c.in-Ok.base c.make_vectors-made.result.nodes c.in-Ok-take_block.base c.make_vectors-made.result.leaves c.loop-slot.slot
           c.copy_slot.new.arenas.nodes c.copy_slot.new.arenas.node_blocks c.copy_slot.new.arenas.leaves c.copy_slot.new.arenas.leaf_blocks c.in_ok-kids.field-0
           c.loop-slot-test.true (ap (λ i. set c.loop-slot.kids i c.in_ok-kids.field-0) c.from-at.ensures)
@@ -118,8 +120,8 @@ copy_node-write_slots-requires-clause-nodes_out g t c = block_out blank c.take_b
 pub copy_node-write_slots-requires-clause-leaves_out : goal.copy_node-write_slots-requires-clause-leaves_out
 copy_node-write_slots-requires-clause-leaves_out g t c = block_out 0 c.take_block-2.new.arena c.loop-slot.arenas.leaves c.take_block-2.new.blocks c.loop-slot.arenas.leaf_blocks c.in-Ok-take_block.base c.make_vectors-made.result.leaves _ _ c.in-Ok-take_block.ensures.takes c.loop-slot.invariant.0.leaves c.make_vectors-made.ensures.leaves
 
-pub copy_slot-overflow_sub-bits : goal.copy_slot-overflow_sub-bits
-copy_slot-overflow_sub-bits g t c = let l = kid_bits c.args.arenas.now.nodes c.args.arenas.now.leaves c.args.was c.in-Some-was.node (g.R.Region.bits c.args.region.now - 6) c.in-Some-was.is c.requires.was in omega (arith, l, c.requires.bits)
+pub copy_slot-overflow_sub-way : goal.copy_slot-overflow_sub-way
+copy_slot-overflow_sub-way g t c = let l = kid_bits c.args.arenas.now.nodes c.args.arenas.now.leaves c.args.was c.in-Some-was.node (g.R.Region.bits c.args.region.now - 6) c.in-Some-was.is (c.requires.was.0, slot (g.R.Region.bits c.args.region.now) c.requires.was.1 c.args.slot, c.requires.was.2) in omega (arith, l, c.requires.way)
 
 pub copy_slot-copy_node-requires : goal.copy_slot-copy_node-requires
 copy_slot-copy_node-requires g t c κs within =
@@ -128,7 +130,7 @@ copy_slot-copy_node-requires g t c κs within =
     let one = child_none (g.R.Region.bits c.args.region.now) (g.R.Region.bits c.descend-child.result) c.args.slot (g.R.Region.answers c.args.region.now) (g.R.Region.answers c.descend-child.result) down.0 down.1 none in
     let less : 2 * g.R.Region.bits c.descend-child.result + 1 < 2 * g.R.Region.bits c.args.region.now = omega (arith, c.descend-child.ensures.bits) in
     let was_is : c.match-was-2.was ≡ c.args.was = elim c.match-was-2.branch [
-      | copy_slot-in-Some-was-2+else-is_same w ↦ w.was-is ∙ sym w.in-Some-was-2.is
+      | copy_slot-in-Some-was-2+else-is_child_same w ↦ w.was-is ∙ sym w.in-Some-was-2.is
       | copy_slot-in_default-was w ↦ w.was-is
     ] in (
       search (rules, less),
@@ -137,7 +139,7 @@ copy_slot-copy_node-requires g t c κs within =
         (
           one,
           (
-            omega (arith, c.requires.bits, down.0),
+            omega (arith, c.requires.way, c.below.ensures.bits, down.0),
             (
               c.requires.nodes_sized,
               (
@@ -146,7 +148,7 @@ copy_slot-copy_node-requires g t c κs within =
                   c.requires.nodes_time,
                   (
                     c.requires.leaves_time,
-                    subst (λ (n : ℕ). IsKid c.args.arenas.now.nodes c.args.arenas.now.leaves c.match-was-2.was (n - 6)) (sym c.requires.bits) (subst (λ (x : Option Node). IsKid c.args.arenas.now.nodes c.args.arenas.now.leaves x (g.R.Region.bits c.args.region.now - 6)) (sym was_is) c.requires.was),
+                    old_below c.args.way.now c.below.result c.args.arenas.now.nodes c.args.arenas.now.leaves c.match-was-2.was c.args.was c.args.slot (g.R.Region.bits c.args.region.now) (g.R.Region.bits c.descend-child.result) (g.R.Region.answers c.args.region.now) (g.R.Region.answers c.descend-child.result) was_is c.below.ensures.prefix c.below.ensures.bits c.requires.way (six_bits (g.R.Region.bits c.args.region.now) c.args.slot (g.R.Region.answers c.args.region.now) none) down.0 down.1 c.requires.was,
                   ),
                 ),
               ),
@@ -180,7 +182,7 @@ copy_node-returns-clause-replaces g t c =
     let can = canonical_same c.make_vectors-made.result.vector c.make_vectors-made.result.leafvec (slot_kind c.ask.new.slots) (slots (g.R.Region.bits c.args.region.now) (g.R.Region.answers c.args.region.now)) a c.make_vectors-made.ensures.canonical in
     let cs = children_same c.make_vectors-made.result.nodes (slot_kind c.ask.new.slots) (slots (g.R.Region.bits c.args.region.now) (g.R.Region.answers c.args.region.now)) a c.make_vectors-made.ensures.nodes in
     let es = runs_same c.make_vectors-made.result.leaves (slot_kind c.ask.new.slots) (slots (g.R.Region.bits c.args.region.now) (g.R.Region.answers c.args.region.now)) a c.make_vectors-made.ensures.leaves in
-    copying_end (g.R.Region.bits c.args.region.now) (g.R.Region.answers c.args.region.now) c.ask.new.slots c.args.was c.args.arenas.now.nodes c.args.arenas.now.node_blocks c.args.arenas.now.leaves c.args.arenas.now.leaf_blocks c.take_block.new.arena c.take_block.new.blocks c.take_block-2.new.arena c.take_block-2.new.blocks
+    copying_end (g.R.Region.bits c.args.region.now) (bits_left c.args.way.now) (g.R.Region.answers c.args.region.now) c.ask.new.slots c.args.was c.args.arenas.now.nodes c.args.arenas.now.node_blocks c.args.arenas.now.leaves c.args.arenas.now.leaf_blocks c.take_block.new.arena c.take_block.new.blocks c.take_block-2.new.arena c.take_block-2.new.blocks
     c.loop-slot.arenas.nodes c.loop-slot.arenas.node_blocks c.loop-slot.arenas.leaves c.loop-slot.arenas.leaf_blocks c.loop-slot.kids c.in-Ok.base c.make_vectors-made.result.nodes c.in-Ok-take_block.base c.make_vectors-made.result.leaves c.loop-slot.slot c.make_vectors-made.result.vector c.make_vectors-made.result.leafvec c.write_slots.new.nodes c.write_slots.new.leaves
     c.loop-slot-test.false c.requires.mixed a can c.make_vectors-made.ensures.nodes cs c.make_vectors-made.ensures.leaves es c.write_slots.ensures.nodes c.write_slots.ensures.leaves c.write_slots.ensures.children c.write_slots.ensures.leaf
     (block_out blank c.take_block.new.arena c.loop-slot.arenas.nodes c.take_block.new.blocks c.loop-slot.arenas.node_blocks c.in-Ok.base c.make_vectors-made.result.nodes _ _ c.in-Ok.ensures.takes c.loop-slot.invariant.0.nodes c.make_vectors-made.ensures.nodes)
@@ -197,22 +199,20 @@ copy_slot-descend-child-requires-clause-fits g t c =
     let none : None ≡ slots (g.R.Region.bits c.args.region.now) (g.R.Region.answers c.args.region.now) c.args.slot = sym c.in-None.is ∙ c.requires.kind in
     six_bits (g.R.Region.bits c.args.region.now) c.args.slot (g.R.Region.answers c.args.region.now) none
 
-pub copy_slot-is_same-requires-clause-node : goal.copy_slot-is_same-requires-clause-node
-copy_slot-is_same-requires-clause-node g t c =
-    kid_is_node c.args.arenas.now.nodes c.args.arenas.now.leaves c.args.was c.in-Some-was-2.node (g.R.Region.bits c.args.region.now - 6) (g.R.Region.bits c.descend-child.result) c.in-Some-was-2.is (omega (arith, c.descend-child.ensures.bits)) c.requires.was
+pub copy_slot-is_child_same-requires-clause-child : goal.copy_slot-is_child_same-requires-clause-child
+copy_slot-is_child_same-requires-clause-child g t c = slot_child c.args.arenas.now.nodes c.args.arenas.now.leaves c.args.was c.in-Some-was-2.node c.args.slot (bits_left c.args.way.now) (g.R.Region.bits c.args.region.now) (g.R.Region.answers c.args.region.now) c.in-Some-was-2.is c.requires.was
 
-pub copy_slot-returns-then-is_same-clause-nodes : goal.copy_slot-returns-then-is_same-clause-nodes
-copy_slot-returns-then-is_same-clause-nodes g t c = gains_none blank c.args.arenas.now.nodes c.args.arenas.now.node_blocks c.args.arenas.now.node_blocks c.requires.nodes_sized (only_none c.args.arenas.now.node_blocks)
+pub copy_slot-returns-then-is_child_same-clause-nodes : goal.copy_slot-returns-then-is_child_same-clause-nodes
+copy_slot-returns-then-is_child_same-clause-nodes g t c = gains_none blank c.args.arenas.now.nodes c.args.arenas.now.node_blocks c.args.arenas.now.node_blocks c.requires.nodes_sized (only_none c.args.arenas.now.node_blocks)
 
-pub copy_slot-returns-then-is_same-clause-leaves : goal.copy_slot-returns-then-is_same-clause-leaves
-copy_slot-returns-then-is_same-clause-leaves g t c = gains_none 0 c.args.arenas.now.leaves c.args.arenas.now.leaf_blocks c.args.arenas.now.leaf_blocks c.requires.leaves_sized (only_none c.args.arenas.now.leaf_blocks)
+pub copy_slot-returns-then-is_child_same-clause-leaves : goal.copy_slot-returns-then-is_child_same-clause-leaves
+copy_slot-returns-then-is_child_same-clause-leaves g t c = gains_none 0 c.args.arenas.now.leaves c.args.arenas.now.leaf_blocks c.args.arenas.now.leaf_blocks c.requires.leaves_sized (only_none c.args.arenas.now.leaf_blocks)
 
-pub copy_slot-returns-then-is_same-clause-replaces : goal.copy_slot-returns-then-is_same-clause-replaces
-copy_slot-returns-then-is_same-clause-replaces g t c =
-    let down = descended_slot (g.R.Region.bits c.args.region.now) c.args.slot (g.R.Region.bits c.descend-child.result) (g.R.Region.answers c.args.region.now) (g.R.Region.answers c.descend-child.result) c.descend-child.ensures.bits c.descend-child.ensures.answers in
-    replaces_shared c.args.arenas.now.nodes c.args.arenas.now.node_blocks c.args.arenas.now.leaves c.args.arenas.now.leaf_blocks c.args.was c.in-Some-was-2.node (g.R.Region.bits c.args.region.now - 6) (g.R.Region.bits c.descend-child.result)
-    (slot (g.R.Region.bits c.args.region.now) (g.R.Region.answers c.args.region.now) c.args.slot) (g.R.Region.answers c.descend-child.result) c.in-Some-was-2.is down.0 down.1
-    (λ k N L h s. (c.is_same.ensures.alike k N L h s).0 c.if-is_same.true)
+pub copy_slot-returns-then-is_child_same-clause-replaces : goal.copy_slot-returns-then-is_child_same-clause-replaces
+copy_slot-returns-then-is_child_same-clause-replaces g t c =
+    replaces_shared c.args.arenas.now.nodes c.args.arenas.now.node_blocks c.args.arenas.now.leaves c.args.arenas.now.leaf_blocks c.args.was c.in-Some-was-2.node (g.R.Region.bits c.args.region.now - 6) (g.R.Region.bits c.args.region.now - 6)
+    (slot (g.R.Region.bits c.args.region.now) (g.R.Region.answers c.args.region.now) c.args.slot) (slot (g.R.Region.bits c.args.region.now) (g.R.Region.answers c.args.region.now) c.args.slot) c.in-Some-was-2.is refl refl
+    (λ k N L h s. (c.is_child_same.ensures.alike k N L h s).0 c.if-is_child_same.true)
 
 pub copy_slot-returns-in_ok-set_aside_all-in-Some-clause-nodes : goal.copy_slot-returns-in_ok-set_aside_all-in-Some-clause-nodes
 copy_slot-returns-in_ok-set_aside_all-in-Some-clause-nodes g t c = gains_none blank c.args.arenas.now.nodes c.args.arenas.now.node_blocks c.set_aside_all.new.node_blocks c.requires.nodes_sized c.set_aside_all.ensures.nodes
@@ -222,8 +222,8 @@ copy_slot-returns-in_ok-set_aside_all-in-Some-clause-leaves g t c = gains_none 0
 
 pub copy_slot-returns-in_ok-set_aside_all-in-Some-clause-replaces : goal.copy_slot-returns-in_ok-set_aside_all-in-Some-clause-replaces
 copy_slot-returns-in_ok-set_aside_all-in-Some-clause-replaces g t c =
-    replaces_gone c.args.arenas.now.nodes c.args.arenas.now.node_blocks c.set_aside_all.new.node_blocks c.args.arenas.now.leaves c.args.arenas.now.leaf_blocks c.set_aside_all.new.leaf_blocks c.args.was c.in-Some-was.node (c.args.bits - 6) (g.R.Region.bits c.args.region.now - 6) c.in-Some._hop
-    (slot (g.R.Region.bits c.args.region.now) (g.R.Region.answers c.args.region.now) c.args.slot) c.in-Some-was.is (ap (λ n. n - 6) c.requires.bits) (sym c.requires.kind ∙ c.in-Some.is) c.in_ok-set_aside_all-in-Some.ensures.gone
+    replaces_gone c.args.arenas.now.nodes c.args.arenas.now.node_blocks c.set_aside_all.new.node_blocks c.args.arenas.now.leaves c.args.arenas.now.leaf_blocks c.set_aside_all.new.leaf_blocks c.args.was c.in-Some-was.node (c.args.way.now.bits - 6) (g.R.Region.bits c.args.region.now - 6) c.in-Some._hop
+    (slot (g.R.Region.bits c.args.region.now) (g.R.Region.answers c.args.region.now) c.args.slot) c.in-Some-was.is (ap (λ n. n - 6) c.requires.way) (sym c.requires.kind ∙ c.in-Some.is) c.in_ok-set_aside_all-in-Some.ensures.gone
 
 pub copy_slot-returns-in_default-clause-nodes : goal.copy_slot-returns-in_default-clause-nodes
 copy_slot-returns-in_default-clause-nodes g t c = gains_none blank c.args.arenas.now.nodes c.args.arenas.now.node_blocks c.args.arenas.now.node_blocks c.requires.nodes_sized (only_none c.args.arenas.now.node_blocks)
@@ -239,7 +239,7 @@ pub copy_slot-returns-in_ok-node-in-None-clause-replaces : goal.copy_slot-return
 copy_slot-returns-in_ok-node-in-None-clause-replaces g t c =
     let down = descended_slot (g.R.Region.bits c.args.region.now) c.args.slot (g.R.Region.bits c.descend-child.result) (g.R.Region.answers c.args.region.now) (g.R.Region.answers c.descend-child.result) c.descend-child.ensures.bits c.descend-child.ensures.answers in
     let was_is : c.match-was-2.was ≡ c.args.was = elim c.match-was-2.branch [
-      | copy_slot-in-Some-was-2+else-is_same w ↦ w.was-is ∙ sym w.in-Some-was-2.is
+      | copy_slot-in-Some-was-2+else-is_child_same w ↦ w.was-is ∙ sym w.in-Some-was-2.is
       | copy_slot-in_default-was w ↦ w.was-is
     ] in
     subst (λ (x : Option Node). Replaces c.args.arenas.now.nodes c.args.arenas.now.node_blocks c.args.arenas.now.leaves c.args.arenas.now.leaf_blocks x c.copy_node.new.arenas.nodes c.copy_node.new.arenas.node_blocks c.copy_node.new.arenas.leaves c.copy_node.new.arenas.leaf_blocks (Some c.in_ok-node-in-None.node) (g.R.Region.bits c.args.region.now - 6) (slot (g.R.Region.bits c.args.region.now) (g.R.Region.answers c.args.region.now) c.args.slot)) was_is
@@ -298,40 +298,53 @@ pub copy_slot-returns-in_default-clause-met : goal.copy_slot-returns-in_default-
 copy_slot-returns-in_default-clause-met g t c =
     meets_uniform c.args.arenas.now.nodes c.args.arenas.now.leaves c.args.was (g.R.Region.bits c.args.region.now - 6) c.in-Some._hop (slot (g.R.Region.bits c.args.region.now) (g.R.Region.answers c.args.region.now) c.args.slot) (sym c.requires.kind ∙ c.in-Some.is)
 
-pub copy_slot-returns-then-is_same-clause-met : goal.copy_slot-returns-then-is_same-clause-met
-copy_slot-returns-then-is_same-clause-met g t c =
-    let down = descended_slot (g.R.Region.bits c.args.region.now) c.args.slot (g.R.Region.bits c.descend-child.result) (g.R.Region.answers c.args.region.now) (g.R.Region.answers c.descend-child.result) c.descend-child.ensures.bits c.descend-child.ensures.answers in
-    meets_same c.args.arenas.now.nodes c.args.arenas.now.leaves c.args.was c.in-Some-was-2.node (g.R.Region.bits c.args.region.now - 6) (g.R.Region.bits c.descend-child.result) (slot (g.R.Region.bits c.args.region.now) (g.R.Region.answers c.args.region.now) c.args.slot) (g.R.Region.answers c.descend-child.result) c.in-Some-was-2.is down.0 down.1
-    (λ k N L h s. (c.is_same.ensures.alike k N L h s).0 c.if-is_same.true)
+pub copy_slot-returns-then-is_child_same-clause-met : goal.copy_slot-returns-then-is_child_same-clause-met
+copy_slot-returns-then-is_child_same-clause-met g t c =
+    meets_same c.args.arenas.now.nodes c.args.arenas.now.leaves c.args.was c.in-Some-was-2.node (g.R.Region.bits c.args.region.now - 6) (g.R.Region.bits c.args.region.now - 6) (slot (g.R.Region.bits c.args.region.now) (g.R.Region.answers c.args.region.now) c.args.slot) (slot (g.R.Region.bits c.args.region.now) (g.R.Region.answers c.args.region.now) c.args.slot) c.in-Some-was-2.is refl refl
+    (λ k N L h s. (c.is_child_same.ensures.alike k N L h s).0 c.if-is_child_same.true)
 
 pub copy_slot-returns-in_ok-node-in-None-clause-met : goal.copy_slot-returns-in_ok-node-in-None-clause-met
 copy_slot-returns-in_ok-node-in-None-clause-met g t c =
     let down = descended_slot (g.R.Region.bits c.args.region.now) c.args.slot (g.R.Region.bits c.descend-child.result) (g.R.Region.answers c.args.region.now) (g.R.Region.answers c.descend-child.result) c.descend-child.ensures.bits c.descend-child.ensures.answers in
     let none : None ≡ slots (g.R.Region.bits c.args.region.now) (g.R.Region.answers c.args.region.now) c.args.slot = sym c.in-None.is ∙ c.requires.kind in
-    let one = child_none (g.R.Region.bits c.args.region.now) (g.R.Region.bits c.descend-child.result) c.args.slot (g.R.Region.answers c.args.region.now) (g.R.Region.answers c.descend-child.result) down.0 down.1 none in
     let was_is : c.match-was-2.was ≡ c.args.was = elim c.match-was-2.branch [
-      | copy_slot-in-Some-was-2+else-is_same w ↦ w.was-is ∙ sym w.in-Some-was-2.is
+      | copy_slot-in-Some-was-2+else-is_child_same w ↦ w.was-is ∙ sym w.in-Some-was-2.is
       | copy_slot-in_default-was w ↦ w.was-is
     ] in
-    let changes : Changes c.args.arenas.now.nodes c.args.arenas.now.leaves c.match-was-2.was (g.R.Region.bits c.descend-child.result) (g.R.Region.answers c.descend-child.result) = elim c.match-was-2.branch [
-      | copy_slot-in-Some-was-2+else-is_same w ↦ changes_node c.args.arenas.now.nodes c.args.arenas.now.leaves c.match-was-2.was w.in-Some-was-2.node (g.R.Region.bits c.descend-child.result) (g.R.Region.answers c.descend-child.result) w.is_same.result w.was-is (λ k N L h s al. (w.is_same.ensures.alike k N L h s).1 al) w.if-is_same.false
-      | copy_slot-in_default-was w ↦ changes_none c.args.arenas.now.nodes c.args.arenas.now.leaves c.match-was-2.was (g.R.Region.bits c.descend-child.result) (g.R.Region.answers c.descend-child.result) (w.was-is ∙ w.in_default-was.is) one
+    let differs : Changes c.args.arenas.now.nodes c.args.arenas.now.leaves c.match-was-2.was (g.R.Region.bits c.args.region.now - 6) (slot (g.R.Region.bits c.args.region.now) (g.R.Region.answers c.args.region.now) c.args.slot) = elim c.match-was-2.branch [
+      | copy_slot-in-Some-was-2+else-is_child_same w ↦ changes_node c.args.arenas.now.nodes c.args.arenas.now.leaves c.match-was-2.was w.in-Some-was-2.node (g.R.Region.bits c.args.region.now - 6) (slot (g.R.Region.bits c.args.region.now) (g.R.Region.answers c.args.region.now) c.args.slot) w.is_child_same.result w.was-is (λ k N L h s al. (w.is_child_same.ensures.alike k N L h s).1 al) w.if-is_child_same.false
+      | copy_slot-in_default-was w ↦ changes_none c.args.arenas.now.nodes c.args.arenas.now.leaves c.match-was-2.was (g.R.Region.bits c.args.region.now - 6) (slot (g.R.Region.bits c.args.region.now) (g.R.Region.answers c.args.region.now) c.args.slot) (w.was-is ∙ w.in_default-was.is) (sym none)
     ] in
+    let changes = subst (λ (n : ℕ). Changes c.args.arenas.now.nodes c.args.arenas.now.leaves c.match-was-2.was n (g.R.Region.answers c.descend-child.result)) (sym down.0) (subst (λ (h : List Bool → ℕ). Changes c.args.arenas.now.nodes c.args.arenas.now.leaves c.match-was-2.was (g.R.Region.bits c.args.region.now - 6) h) (sym down.1) differs) in
     meets_copied c.args.arenas.now.nodes c.copy_node.new.arenas.nodes c.args.arenas.now.leaves c.copy_node.new.arenas.leaves c.match-was-2.was c.args.was (g.R.Region.bits c.args.region.now - 6) (g.R.Region.bits c.descend-child.result) (slot (g.R.Region.bits c.args.region.now) (g.R.Region.answers c.args.region.now) c.args.slot) (g.R.Region.answers c.descend-child.result) was_is down.0 down.1 changes c.in_ok-node-in-None.ensures.met
 
 pub copy_slot-returns-in_err-node-in-None-clause-refused : goal.copy_slot-returns-in_err-node-in-None-clause-refused
 copy_slot-returns-in_err-node-in-None-clause-refused g t c =
     let down = descended_slot (g.R.Region.bits c.args.region.now) c.args.slot (g.R.Region.bits c.descend-child.result) (g.R.Region.answers c.args.region.now) (g.R.Region.answers c.descend-child.result) c.descend-child.ensures.bits c.descend-child.ensures.answers in
     let none : None ≡ slots (g.R.Region.bits c.args.region.now) (g.R.Region.answers c.args.region.now) c.args.slot = sym c.in-None.is ∙ c.requires.kind in
-    let one = child_none (g.R.Region.bits c.args.region.now) (g.R.Region.bits c.descend-child.result) c.args.slot (g.R.Region.answers c.args.region.now) (g.R.Region.answers c.descend-child.result) down.0 down.1 none in
     let was_is : c.match-was-2.was ≡ c.args.was = elim c.match-was-2.branch [
-      | copy_slot-in-Some-was-2+else-is_same w ↦ w.was-is ∙ sym w.in-Some-was-2.is
+      | copy_slot-in-Some-was-2+else-is_child_same w ↦ w.was-is ∙ sym w.in-Some-was-2.is
       | copy_slot-in_default-was w ↦ w.was-is
     ] in
-    let changes : Changes c.args.arenas.now.nodes c.args.arenas.now.leaves c.match-was-2.was (g.R.Region.bits c.descend-child.result) (g.R.Region.answers c.descend-child.result) = elim c.match-was-2.branch [
-      | copy_slot-in-Some-was-2+else-is_same w ↦ changes_node c.args.arenas.now.nodes c.args.arenas.now.leaves c.match-was-2.was w.in-Some-was-2.node (g.R.Region.bits c.descend-child.result) (g.R.Region.answers c.descend-child.result) w.is_same.result w.was-is (λ k N L h s al. (w.is_same.ensures.alike k N L h s).1 al) w.if-is_same.false
-      | copy_slot-in_default-was w ↦ changes_none c.args.arenas.now.nodes c.args.arenas.now.leaves c.match-was-2.was (g.R.Region.bits c.descend-child.result) (g.R.Region.answers c.descend-child.result) (w.was-is ∙ w.in_default-was.is) one
+    let differs : Changes c.args.arenas.now.nodes c.args.arenas.now.leaves c.match-was-2.was (g.R.Region.bits c.args.region.now - 6) (slot (g.R.Region.bits c.args.region.now) (g.R.Region.answers c.args.region.now) c.args.slot) = elim c.match-was-2.branch [
+      | copy_slot-in-Some-was-2+else-is_child_same w ↦ changes_node c.args.arenas.now.nodes c.args.arenas.now.leaves c.match-was-2.was w.in-Some-was-2.node (g.R.Region.bits c.args.region.now - 6) (slot (g.R.Region.bits c.args.region.now) (g.R.Region.answers c.args.region.now) c.args.slot) w.is_child_same.result w.was-is (λ k N L h s al. (w.is_child_same.ensures.alike k N L h s).1 al) w.if-is_child_same.false
+      | copy_slot-in_default-was w ↦ changes_none c.args.arenas.now.nodes c.args.arenas.now.leaves c.match-was-2.was (g.R.Region.bits c.args.region.now - 6) (slot (g.R.Region.bits c.args.region.now) (g.R.Region.answers c.args.region.now) c.args.slot) (w.was-is ∙ w.in_default-was.is) (sym none)
     ] in
+    let changes = subst (λ (n : ℕ). Changes c.args.arenas.now.nodes c.args.arenas.now.leaves c.match-was-2.was n (g.R.Region.answers c.descend-child.result)) (sym down.0) (subst (λ (h : List Bool → ℕ). Changes c.args.arenas.now.nodes c.args.arenas.now.leaves c.match-was-2.was (g.R.Region.bits c.args.region.now - 6) h) (sym down.1) differs) in
     let out = refused_copied c.args.arenas.now.nodes c.args.arenas.now.leaves c.match-was-2.was c.args.was (g.R.Region.bits c.args.region.now - 6) (g.R.Region.bits c.descend-child.result) (slot (g.R.Region.bits c.args.region.now) (g.R.Region.answers c.args.region.now) c.args.slot) (g.R.Region.answers c.descend-child.result) c.in_err-node-in-None.field-0.0 was_is down.0 down.1 changes c.in_err-node-in-None.ensures.refused in
     let p = err_from_is_err_and c.from_residual-in_err-node-in-None.result c.from_residual-in_err-node-in-None.ensures.1 in
     rw (p.1, p.2) out
+
+pub copy_slot-below-requires : goal.copy_slot-below-requires
+copy_slot-below-requires g t c =
+    let six = six_bits (g.R.Region.bits c.args.region.now) c.args.slot (g.R.Region.answers c.args.region.now) (sym c.in-None.is ∙ c.requires.kind) in
+    omega (arith, six, c.requires.way)
+
+pub copy_slot-is_child_same-requires-clause-fits : goal.copy_slot-is_child_same-requires-clause-fits
+copy_slot-is_child_same-requires-clause-fits g t c = six_bits (g.R.Region.bits c.args.region.now) c.args.slot (g.R.Region.answers c.args.region.now) (sym c.in-None.is ∙ c.requires.kind)
+
+pub copy_node-open_node-requires-clause-node : goal.copy_node-open_node-requires-clause-node
+copy_node-open_node-requires-clause-node g t c = (c.args.arenas.now.leaves, g.R.Region.bits c.args.region.now, (c.requires.was.0, c.requires.was.1, c.requires.was.2))
+
+pub copy_slot-set_aside_all-requires-clause-node : goal.copy_slot-set_aside_all-requires-clause-node
+copy_slot-set_aside_all-requires-clause-node g t c = (c.args.arenas.now.leaves, slot_kid c.args.arenas.now.nodes c.args.arenas.now.leaves c.args.was c.in-Some-was.node c.args.slot (bits_left c.args.way.now) (g.R.Region.bits c.args.region.now) c.args.way.now.bits (g.R.Region.answers c.args.region.now) c.in-Some-was.is c.requires.way c.requires.was)

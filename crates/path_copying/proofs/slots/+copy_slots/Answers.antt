@@ -1,10 +1,15 @@
-use Rattle.std.proofs.Common.{rules, arith, ℕ, suc, ◌≡◌, ◌≢◌, ◌+◌, ◌-◌, ◌*◌, ◌%◌, ◌^◌, ◌<◌, ◌≤◌, refl, ap, ◌∙◌, subst}
+use Rattle.std.proofs.Common.{rules, arith, ℕ, suc, ◌≡◌, ◌≢◌, ◌+◌, ◌-◌, ◌*◌, ◌%◌, ◌^◌, ◌<◌, ◌≤◌, refl, ap, ◌∙◌}
 use Rattle.std.specs.Prelude.{slice_index, List, [], ◌∷◌, ◌++◌}
 use Rattle.std.proofs.lemmas.Nat.{one_shl}
 use Rattle.poptrie_build.specs.Stands.{blank}
 use Rattle.poptrie_build.proofs.Slotting.{double}
 use Rattle.path_copying.specs.declared.slots.Store.{Store}
-use Rattle.path_copying.specs.Words.{IsWord}
+use Rattle.std.specs.Prelude.{drop}
+use Rattle.table_model.specs.Bits.{bits_of}
+use Rattle.fib_addr.specs.Answers.{part}
+use Rattle.path_copying.specs.Ways.{bits_left}
+use Rattle.path_copying.proofs.Beside.{left_way}
+use Rattle.path_copying.proofs.Old_words.{old_here, old_high, old_low, old_word_gained}
 use Rattle.path_copying.specs.Stores.{stored}
 use Rattle.path_copying.proofs.Gaining.{gains_then}
 use Rattle.std.proofs.lemmas.Result.{err_from_is_err_and}
@@ -13,7 +18,7 @@ use Rattle.table_model.specs.Sets.{side}
 use Rattle.path_copying.specs.Asks.{MeetsNotSlots}
 use Rattle.path_copying.proofs.Kept_word.{kept_stored, kept_same, kept_halves}
 use Rattle.path_copying.proofs.Word_asked.{slot_met, slot_refused, halves_met, low_refused, high_refused}
-use Rattle.path_copying.proofs.Slot_copy.{on_ok, if_err, stores_more, stores_one, slot_stored, slot_same, halves_copied, word_gained}
+use Rattle.path_copying.proofs.Slot_copy.{on_ok, if_err, stores_more, stores_one, slot_stored, slot_same, halves_copied}
 use Rattle.path_copying.proofs.slots.+copy_slots.Goals as goal
 
 -- half the slots
@@ -76,9 +81,9 @@ copy_slots-requires g t c κs within =
       (
         search rules,
         (
-          omega (arith, c.requires.bits, c.half.ensures.bits),
+          omega (arith, c.requires.way, c.below.ensures.bits, c.half.ensures.bits),
           (
-            omega (arith, c.requires.depth),
+            omega (arith, c.requires.depth, c.below.ensures.bits),
             (
               omega (arith, c.requires.shallow),
               (
@@ -93,7 +98,7 @@ copy_slots-requires g t c κs within =
                         c.requires.nodes_time,
                         (
                           c.requires.leaves_time,
-                          ((λ v l m. subst (λ (n : ℕ). IsWord c.args.arenas.now.nodes c.args.arenas.now.leaves (slice_index c.args.words.now v) n) (omega (arith, c.if-depth-eq0.false, c.requires.depth)) (c.requires.words v l (omega (arith, m, b)))), c.requires.stores),
+                          (old_low c.args.arenas.now.nodes c.args.arenas.now.leaves c.args.words.now c.args.first c.args.depth (c.args.depth - 1) (bits_left c.args.way.now) (bits_left c.below.result) (g.R.Region.bits c.args.region.now) (g.R.Region.bits c.half.result) (g.R.Region.answers c.args.region.now) (g.R.Region.answers c.half.result) (omega (arith, c.if-depth-eq0.false)) (left_way c.args.way.now c.below.result 1 c.below.ensures.prefix c.below.ensures.bits (omega (arith, c.if-depth-eq0.false, c.requires.depth))) c.half.ensures.bits c.half.ensures.answers c.requires.words, c.requires.stores),
                         ),
                       ),
                     ),
@@ -121,9 +126,9 @@ copy_slots-requires-2 g t c κs within =
       (
         search rules,
         (
-          omega (arith, c.requires.bits, c.half-2.ensures.bits),
+          omega (arith, c.requires.way, c.below-2.ensures.bits, c.half-2.ensures.bits),
           (
-            omega (arith, c.requires.depth),
+            omega (arith, c.requires.depth, c.below-2.ensures.bits),
             (
               omega (arith, c.requires.shallow),
               (
@@ -139,8 +144,8 @@ copy_slots-requires-2 g t c κs within =
                         (
                           omega (arith, c.copy_slots.ensures.leaves.time, c.requires.leaves_time),
                           (
-                            (λ v l m. word_gained c.args.arenas.now.nodes c.copy_slots.new.arenas.nodes c.args.arenas.now.node_blocks c.copy_slots.new.arenas.node_blocks c.args.arenas.now.leaves c.copy_slots.new.arenas.leaves c.args.arenas.now.leaf_blocks c.copy_slots.new.arenas.leaf_blocks (slice_index c.args.words.now v) (c.args.bits - c.args.depth) (c.args.bits - 1 - (c.args.depth - 1)) (omega (arith, c.if-depth-eq0.false, c.requires.depth)) c.copy_slots.ensures.nodes c.copy_slots.ensures.leaves
-                                (c.requires.words v (omega (arith, l, n)) (omega (arith, m, b, n)))),
+                            old_high c.copy_slots.new.arenas.nodes c.copy_slots.new.arenas.leaves c.args.words.now c.args.first c.args.depth (c.args.depth - 1) (bits_left c.args.way.now) (bits_left c.below-2.result) (g.R.Region.bits c.args.region.now) (g.R.Region.bits c.half-2.result) (g.R.Region.answers c.args.region.now) (g.R.Region.answers c.half-2.result) (omega (arith, c.if-depth-eq0.false)) (left_way c.args.way.now c.below-2.result 1 c.below-2.ensures.prefix c.below-2.ensures.bits (omega (arith, c.if-depth-eq0.false, c.requires.depth))) c.half-2.ensures.bits (c.args.first + 1 * 2 ^ (c.args.depth - 1) % 4294967296) n c.half-2.ensures.answers
+                                (λ v l. old_word_gained c.args.arenas.now.nodes c.copy_slots.new.arenas.nodes c.args.arenas.now.node_blocks c.copy_slots.new.arenas.node_blocks c.args.arenas.now.leaves c.copy_slots.new.arenas.leaves c.args.arenas.now.leaf_blocks c.copy_slots.new.arenas.leaf_blocks (slice_index c.args.words.now (c.args.first + v)) (drop c.args.depth (bits_left c.args.way.now)) (g.R.Region.bits c.args.region.now - c.args.depth) (part (bits_of c.args.depth v) (g.R.Region.answers c.args.region.now)) c.copy_slots.ensures.nodes c.copy_slots.ensures.leaves (c.requires.words v l)),
                             stores_more c.args.words.now c.copy_slots.new.stores.items (c.args.first + 2 ^ (c.args.depth - 1)) (c.args.first + 1 * 2 ^ (c.args.depth - 1) % 4294967296) (omega (arith, n)) c.in_ok-copy_slots.ensures.stores,
                           ),
                         ),
@@ -217,3 +222,6 @@ returns-clause-kept g t c =
     (g.R.Region.bits c.args.region.now - c.args.depth) (g.R.Region.bits c.half.result - (c.args.depth - 1)) (g.R.Region.bits c.half-2.result - (c.args.depth - 1)) (g.R.Region.answers c.args.region.now) (g.R.Region.answers c.half.result) (g.R.Region.answers c.half-2.result)
     (omega (arith, c.if-depth-eq0.false)) n (omega (arith, c.half.ensures.bits, c.if-depth-eq0.false)) (omega (arith, c.half-2.ensures.bits, c.if-depth-eq0.false)) c.half.ensures.answers c.half-2.ensures.answers
     c.copy_slots.ensures.nodes.keeps c.copy_slots.ensures.leaves.keeps c.in_ok-copy_slots.ensures.kept k)
+
+pub copy_word-requires-clause-word : goal.copy_word-requires-clause-word
+copy_word-requires-clause-word g t c = old_here c.args.arenas.now.nodes c.args.arenas.now.leaves c.args.words.now c.args.first (bits_left c.args.way.now) (g.R.Region.bits c.args.region.now) (g.R.Region.answers c.args.region.now) c.args.depth c.if-depth-eq0.true c.requires.words

@@ -3,7 +3,8 @@ use Rattle.buddy_arena.specs.Places.{TakesPlaces, is_out, count_free}
 use Rattle.poptrie_build.specs.Stands.{blank}
 use Rattle.poptrie_build.specs.declared.node.Node.{Node}
 use Rattle.poptrie_build.proofs.Directing.{small_len, first_out}
-use Rattle.path_copying.specs.Kids.{IsKid}
+use Rattle.path_copying.specs.Ways.{bits_left, IsOldKid}
+use Rattle.path_copying.proofs.Old_words.{old_is_word}
 use Rattle.path_copying.specs.Changes.{Replaces}
 use Rattle.path_copying.proofs.Gaining.{gains_none, gains_then, gains_written, only_none}
 use Rattle.std.proofs.lemmas.Result.{err_from_is_err_and}
@@ -36,8 +37,8 @@ copy_node-requires-clause-nodes_time g c = let x = c.take_block.ensures.gains bl
 pub copy_node-requires-clause-was : goal.copy_node-requires-clause-was
 copy_node-requires-clause-was g c =
     let x = c.take_block.ensures.gains blank in
-    subst (λ (z : Option Node). IsKid c.take_block.new.arena c.args.arenas.now.leaves z c.args.bits) (sym c.word_node-was.ensures)
-    (word_kept c.args.arenas.now.nodes c.take_block.new.arena c.args.arenas.now.leaves c.args.arenas.now.leaves _ c.args.bits x.keeps (record { still = λ i h. h; same = λ i h. refl; long = refl }) (word_kid c.args.arenas.now.nodes c.args.arenas.now.leaves c.args.word c.args.bits c.requires.word))
+    subst (λ (z : Option Node). IsOldKid c.take_block.new.arena c.args.arenas.now.leaves z (bits_left c.args.way.now) (g.R.Region.bits c.args.region.now) (g.R.Region.answers c.args.region.now)) (sym c.word_node-was.ensures)
+    (word_kept c.args.arenas.now.nodes c.take_block.new.arena c.args.arenas.now.leaves c.args.arenas.now.leaves _ (bits_left c.args.way.now) (g.R.Region.bits c.args.region.now) (g.R.Region.answers c.args.region.now) x.keeps (record { still = λ i h. h; same = λ i h. refl; long = refl }) (word_kid c.args.arenas.now.nodes c.args.arenas.now.leaves c.args.word (bits_left c.args.way.now) (g.R.Region.bits c.args.region.now) (g.R.Region.answers c.args.region.now) c.requires.word))
 
 pub returns-in_err-node-clause-nodes : goal.returns-in_err-node-clause-nodes
 returns-in_err-node-clause-nodes g c =
@@ -88,3 +89,6 @@ returns-clause-met g c =
     let x = c.take_block.ensures.gains blank in
     word_met c.args.arenas.now.nodes c.take_block.new.arena c.args.arenas.now.leaves c.args.word (g.R.Region.bits c.args.region.now) (g.R.Region.answers c.args.region.now) c.requires.mixed c.copy_node.new.arenas.nodes c.put.new.arena c.copy_node.new.arenas.leaves c.in-Ok.ensures.met x.keeps x.order c.put.ensures.free
     (subst (λ (z : Option Node). MeetsChanged c.take_block.new.arena c.args.arenas.now.leaves z c.copy_node.new.arenas.nodes c.copy_node.new.arenas.leaves (g.R.Region.bits c.args.region.now) (g.R.Region.answers c.args.region.now)) c.word_node-was.ensures c.in_ok-node.ensures.met)
+
+pub word_node-was-requires-clause-word : goal.word_node-was-requires-clause-word
+word_node-was-requires-clause-word g c = (c.args.arenas.now.leaves, g.R.Region.bits c.args.region.now, old_is_word c.args.arenas.now.nodes c.args.arenas.now.leaves c.args.word (bits_left c.args.way.now) (g.R.Region.bits c.args.region.now) (g.R.Region.answers c.args.region.now) c.requires.word)

@@ -1,8 +1,13 @@
-use Rattle.std.proofs.Common.{rules, ℕ, List, Bool, ◌≡◌, ◌+◌, ◌-◌, ◌*◌, ◌/◌, ◌%◌, ◌^◌, ◌<◌, ◌≤◌, refl, ap, arith, subst}
-use Rattle.std.specs.Prelude.{slice_index}
+use Rattle.std.proofs.Common.{rules, ℕ, List, Bool, ◌≡◌, ◌+◌, ◌-◌, ◌*◌, ◌/◌, ◌%◌, ◌^◌, ◌<◌, ◌≤◌, refl, sym, ap, ◌∙◌, arith}
+use Rattle.std.specs.Prelude.{drop, slice_index}
 use Rattle.table_model.specs.Width.{width}
 use Rattle.fib_addr.specs.Views.{prefix_as}
-use Rattle.path_copying.specs.Words.{IsWord}
+use Rattle.table_model.specs.Bits.{bits_of}
+use Rattle.fib_addr.specs.Answers.{part}
+use Rattle.path_copying.specs.Ways.{bits_left}
+use Rattle.path_copying.proofs.Old_words.{old_word_at}
+use Rattle.poptrie_set.proofs.Key_bits.{wide}
+use Rattle.poptrie_set.proofs.Within.{left_after, left_whole, part_words}
 use Rattle.path_copying.specs.Asks.{MeetsNotSlots}
 use Rattle.path_copying.proofs.Slot_copy.{stores_more}
 use Rattle.poptrie_set.specs.Renewals.{IsSpliced, MeetsNotRenewal}
@@ -220,9 +225,28 @@ copy_slots-requires-2-clause-few g c =
 
 pub copy_slots-requires-clause-words : goal.copy_slots-requires-clause-words
 copy_slots-requires-clause-words g c =
-    λ v low high.
-    let same : g.R.Region.bits c.args.region.now - c.args.direct_bits ≡ c.width-bits.result - c.args.direct_bits = omega (arith, c.requires.bits, c.width-bits.ensures) in
-    subst (λ (n : ℕ). IsWord c.args.arenas.now.nodes c.args.arenas.now.leaves (slice_index c.args.words.now v) n) same (c.requires.words v (omega (arith, high)))
+    λ v low.
+    let p = (prefix_as c.args.within.now).bits in
+    let first : 0 + v ≡ v = omega arith in
+    old_word_at c.args.arenas.now.nodes c.args.arenas.now.leaves (slice_index c.args.words.now v) (slice_index c.args.words.now (0 + v)) (drop c.args.direct_bits p) (drop c.args.direct_bits (bits_left c.to-way.result)) (g.R.Region.bits c.args.region.now - c.args.direct_bits) (g.R.Region.bits c.args.region.now - c.args.direct_bits) (part (bits_of c.args.direct_bits v) (g.R.Region.answers c.args.region.now)) (part (bits_of c.args.direct_bits v) (g.R.Region.answers c.args.region.now))
+    (ap (λ i. slice_index c.args.words.now i) first) (ap (drop c.args.direct_bits) (left_whole c.to-way.result c.args.within.now c.to-way.ensures.prefix c.to-way.ensures.bits)) refl refl (c.requires.words v low)
+
+pub copy_slots-requires-clause-way : goal.copy_slots-requires-clause-way
+copy_slots-requires-clause-way g c = c.to-way.ensures.bits ∙ (ap width c.requires.family ∙ sym c.requires.bits)
+
+pub copy_slots-requires-clause-depth : goal.copy_slots-requires-clause-depth
+copy_slots-requires-clause-depth g c = omega (arith, c.requires.few, wide c.args.within.now.family, c.to-way.ensures.bits)
+
+pub below-requires : goal.below-requires
+below-requires g c = omega (arith, c.requires.few, wide c.args.within.now.family, c.to-way.ensures.bits, c.min-len.ensures)
+
+pub copy_slots-requires-2-clause-way : goal.copy_slots-requires-2-clause-way
+copy_slots-requires-2-clause-way g c =
+    let way = c.to-way.ensures.bits ∙ (ap width c.requires.family ∙ sym c.requires.bits) in
+    omega (arith, way, c.below.ensures.bits, c.part_of.ensures.bits)
+
+pub copy_slots-requires-2-clause-depth : goal.copy_slots-requires-2-clause-depth
+copy_slots-requires-2-clause-depth g c = omega (arith, c.requires.few, wide c.args.within.now.family, c.to-way.ensures.bits, c.below.ensures.bits, c.min-len.ensures)
 
 pub overflow_cast-number-2 : goal.overflow_cast-number-2
 overflow_cast-number-2 g c =
@@ -262,21 +286,23 @@ copy_slots-requires-2-clause-many g c =
 
 pub copy_slots-requires-2-clause-words : goal.copy_slots-requires-2-clause-words
 copy_slots-requires-2-clause-words g c =
-    λ v low high.
+    λ v low.
     let d : ℕ = 0 in
     let w = width c.args.prefix.now.family in
     let len = c.args.prefix.now.len in
     let t = c.min-len.result in
     let n = c.args.prefix.now.bits in
     let number = c.args.prefix.now.bits / 2 ^ (c.width-bits.result - c.min-len.result) in
-    let wide = c.width-bits.ensures in
+    let wide_is = c.width-bits.ensures in
     let least = c.min-len.ensures in
     let j = c.args.direct_bits - c.min-len.result in
     let first = number * 2 ^ j % 4294967296 in
     let short : t ≤ len = omega (arith, least) in
     let few : t ≤ c.args.direct_bits = omega (arith, least) in
-    let is : number ≡ n / 2 ^ (w - t) = ap (λ m. n / 2 ^ (m - t)) wide in
+    let is : number ≡ n / 2 ^ (w - t) = ap (λ m. n / 2 ^ (m - t)) wide_is in
     let at : first ≡ number * 2 ^ j = number_at w len c.args.direct_bits t n number j first d short c.args.prefix.now.fits few c.args.prefix.now.below is refl c.requires.few in
     let many = number_many w len c.args.direct_bits t n number j first d short c.args.prefix.now.fits few c.args.prefix.now.below is refl at in
-    let same : g.R.Region.bits c.args.region.now - c.args.direct_bits ≡ c.width-bits.result - c.min-len.result - (c.args.direct_bits - c.min-len.result) = omega (arith, c.requires.bits, c.width-bits.ensures, few) in
-    subst (λ (n : ℕ). IsWord c.args.arenas.now.nodes c.args.arenas.now.leaves (slice_index c.args.words.now v) n) same (c.requires.words v (omega (arith, high, many)))
+    let same : g.R.Region.bits c.part_of.result - j ≡ g.R.Region.bits c.args.region.now - c.args.direct_bits = omega (arith, c.part_of.ensures.bits, few) in
+    let sum : t + j ≡ c.args.direct_bits = omega (arith, few) in
+    let left = left_after c.to-way.result c.below.result c.args.within.now t j c.args.direct_bits c.to-way.ensures.prefix c.to-way.ensures.bits c.below.ensures.prefix c.below.ensures.bits (omega (arith, few, c.requires.few, wide c.args.within.now.family, c.to-way.ensures.bits)) sum in
+    part_words c.args.arenas.now.nodes c.args.arenas.now.leaves c.args.words.now c.args.direct_bits t j number first (drop c.args.direct_bits (prefix_as c.args.within.now).bits) (drop j (bits_left c.below.result)) (g.R.Region.bits c.args.region.now - c.args.direct_bits) (g.R.Region.bits c.part_of.result - j) (g.R.Region.answers c.args.region.now) (g.R.Region.answers c.part_of.result) sum at many left same c.part_of.ensures.answers c.requires.words v low
