@@ -142,10 +142,8 @@ surveyed_halves j d b c v w f g h s t u x y z j0 two next eb eg ec eh low high e
     let end : w + 2 ^ (j - 1) ≡ v + 2 ^ j = omega (arith, next, two) in
     subst (λ (n : ℕ). IsSurveyed u z (λ u. one_answer e (r u)) n) end second
 
-pub surveyed_whole : (d b c : ℕ) (f g h : List Bool → ℕ) (s t u : Survey) (x y z : List ℕ) → s ≡ record { vectors = record { vector = 0; leafvec = 0; last = None }; leaves = 0 } → b + 1 ≡ d → g ≡ side false f → c + 1 ≡ d → h ≡ side true f → Adds 5 b 0 g s x t y → Adds 5 c 32 h t y u z → IsSurveyed u z (slots d f) 64
-surveyed_whole d b c f g h s t u x y z is eb eg ec eh low high =
-    let six : 6 ≢ 0 = omega arith in
-    surveyed_halves 6 d b c 0 32 f g h s t u x y z six refl refl eb eg ec eh low high (d - 6) (slot d f) (parts_start d f) (surveyed_start (slots d f) x s is)
+pub surveyed_whole : (d : ℕ) (f : List Bool → ℕ) (s t : Survey) (x y : List ℕ) → s ≡ record { vectors = record { vector = 0; leafvec = 0; last = None }; leaves = 0 } → Adds 6 d 0 f s x t y → IsSurveyed t y (slots d f) 64
+surveyed_whole d f s t x y is all = all (d - 6) (slot d f) (parts_start d f) (surveyed_start (slots d f) x s is)
 
 pub surveyed_nodes : (g : ℕ → Option ℕ) (hops : List ℕ) (s : Survey) → IsSurveyed s hops g 64 → ones s.vectors.vector ≡ children g
 surveyed_nodes g hops s i = ones_total s.vectors.vector 64 (λ u. mixed (g u)) (omega arith) (omega arith) i.vectors.no_nodes i.vectors.nodes

@@ -179,9 +179,3 @@ module _ (j d e v : ℕ) (f : List Bool → ℕ) (r : ℕ → List Bool → ℕ)
 
   pub parts_high : h ≡ side true f → AreParts (j - 1) b h e r (v + 2 ^ (j - 1))
   parts_high s = subst (λ (x : List Bool → ℕ). AreParts (j - 1) b x e r (v + 2 ^ (j - 1))) (sym s) (high_parts (j - 1) b e v f r whole)
-
--- a node's slots are those of its two halves
-pub node_slots : (P : Tally → ℕ → Type 0) (low all : Tally) (d b c : ℕ) (f g h : List Bool → ℕ) → b + 1 ≡ d → g ≡ side false f → c + 1 ≡ d → h ≡ side true f → (AreParts 5 b g (d - 6) (slot d f) 0 → P low 32) → (AreParts 5 c h (d - 6) (slot d f) 32 → P low 32 → P all 64) → P all 64
-node_slots P low all d b c f g h eb eg ec eh first second =
-    let six : 6 ≢ 0 = omega arith in
-    second (parts_high 6 d (d - 6) 0 f (slot d f) six c h ec (parts_start d f) eh) (first (parts_low 6 d (d - 6) 0 f (slot d f) six b g eb (parts_start d f) eg))

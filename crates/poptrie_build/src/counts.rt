@@ -1,6 +1,6 @@
 //! How many places a trie's nodes and leaves need, counted without building it.
 
-ghost use Rattle.std.specs.Prelude.{◌≡◌, ℕ, ◌+◌, ◌-◌, ◌*◌, ◌^◌, ◌≤◌, List, Bool, None};
+ghost use Rattle.std.specs.Prelude.{◌≡◌, ℕ, ◌+◌, ◌-◌, ◌*◌, ◌^◌, ◌<◌, ◌≤◌, List, Bool, None};
 ghost use Rattle.fib_addr.specs.Answers.{one_answer};
 ghost use Rattle.poptrie_build.specs.Need.{need_in_u64, need_nodes, need_leaves, trie_nodes, trie_leaves};
 ghost use Rattle.poptrie_build.specs.Tally.{AreParts, IsWholeTally};
@@ -27,14 +27,33 @@ pub(crate) fn count_node<R: Region>(region: &R) -> Needs
         → result.leaves ≡ need_in_u64 (need_leaves k (R.bits region.now) (R.answers region.now)) }
 {
     let mut tally = Tally::new();
-    tally_slots(&region.half(false), 5, &mut tally);
-    tally_slots(&region.half(true), 5, &mut tally);
+    tally_halves(region, 6, &mut tally);
     tally.needs()
+}
+
+/// Adds the slots of a part of a node's region with two answers, which `depth` more bits tell apart: those of its halves.
+#[cycle(count_node)]
+fn tally_halves<R: Region>(region: &R, depth: u8, tally: &mut Tally)
+    requires mixed { one_answer (R.bits region.now) (R.answers region.now) ≡ None }
+    requires some { 0 < depth }
+    requires nodes { tally.old.nodes + 2 ^ depth ≤ 64 }
+    requires leaves { tally.old.leaves + 2 ^ depth ≤ 64 }
+    ensures tally { (k e v : ℕ) (r : ℕ → List Bool → ℕ) → e ≤ 6 * k
+        → AreParts depth (R.bits region.now) (R.answers region.now) e r v
+        → IsWholeTally tally.old k e r v → IsWholeTally tally.new k e r (v + 2 ^ depth) }
+    ensures nodes { tally.new.nodes ≤ tally.old.nodes + 2 ^ depth }
+    ensures leaves { tally.new.leaves ≤ tally.old.leaves + 2 ^ depth }
+{
+    let low = region.half(false);
+    let high = region.half(true);
+    tally_slots(&low, depth - 1, tally);
+    tally_slots(&high, depth - 1, tally);
 }
 
 /// Adds the slots of one more part of a node's region, which `depth` more bits tell apart. A part with one answer is as many leaves at
 /// once, and of one slot that has a node the need is counted right there.
 #[cycle(count_node)]
+#[inline(always)]
 fn tally_slots<R: Region>(region: &R, depth: u8, tally: &mut Tally)
     requires nodes { tally.old.nodes + 2 ^ depth ≤ 64 }
     requires leaves { tally.old.leaves + 2 ^ depth ≤ 64 }
@@ -51,8 +70,7 @@ fn tally_slots<R: Region>(region: &R, depth: u8, tally: &mut Tally)
                 tally.add_node(count_node(region));
                 return;
             }
-            tally_slots(&region.half(false), depth - 1, tally);
-            tally_slots(&region.half(true), depth - 1, tally);
+            tally_halves(region, depth, tally);
         }
     }
 }

@@ -40,10 +40,11 @@ pub fn descend<R: Region>(region: &R, bits: u8, depth: u8) -> R
     ensures bits { R.bits result + depth ≡ R.bits region.now }
     ensures answers { R.answers result ≡ part (bits_of depth bits) (R.answers region.now) }
 {
-    let at = depth - 1;
-    let half = region.half((bits >> at) & 1 == 1);
-    if at == 0 {
-        return half;
+    let mut at = depth - 1;
+    let mut part = region.half((bits >> at) & 1 == 1);
+    while at > 0 {
+        at -= 1;
+        part = part.half((bits >> at) & 1 == 1);
     }
-    descend(&half, bits, at)
+    part
 }

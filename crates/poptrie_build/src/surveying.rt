@@ -65,7 +65,32 @@ fn add_node(survey: &mut Survey, slot: u8)
     };
 }
 
+/// Adds the slots of a part of a node's region with two answers, from this slot on, which `depth` more bits tell apart: those of
+/// its halves.
+#[cycle(add_halves)]
+fn add_halves<R: Region>(region: &R, depth: u8, slot: u8, survey: &mut Survey, hops: &mut [u16])
+    requires mixed { one_answer (R.bits region.now) (R.answers region.now) ≡ None }
+    requires some { 0 < depth }
+    requires shallow { depth ≤ 6 }
+    requires slots { slot + 2 ^ depth ≤ 64 }
+    requires many { length hops.old ≡ 64 }
+    requires few { survey.old.leaves ≤ slot }
+    ensures slots { (e : ℕ) (r : ℕ → List Bool → ℕ)
+        → AreParts depth (R.bits region.now) (R.answers region.now) e r slot
+        → IsSurveyed survey.old hops.old (λ u. one_answer e (r u)) slot
+        → IsSurveyed survey.new hops.new (λ u. one_answer e (r u)) (slot + 2 ^ depth) }
+    ensures few { survey.new.leaves ≤ slot + 2 ^ depth }
+{
+    let low = region.half(false);
+    let high = region.half(true);
+    let below = depth - 1;
+    add_slots(&low, below, slot, survey, hops);
+    add_slots(&high, below, slot + (1 << below), survey, hops);
+}
+
 /// Adds the slots of one more part of a node's region, from this slot on, which `depth` more bits tell apart.
+#[cycle(add_halves)]
+#[inline(always)]
 fn add_slots<R: Region>(region: &R, depth: u8, slot: u8, survey: &mut Survey, hops: &mut [u16])
     requires shallow { depth ≤ 6 }
     requires slots { slot + 2 ^ depth ≤ 64 }
@@ -84,9 +109,7 @@ fn add_slots<R: Region>(region: &R, depth: u8, slot: u8, survey: &mut Survey, ho
                 add_node(survey, slot);
                 return;
             }
-            let below = depth - 1;
-            add_slots(&region.half(false), below, slot, survey, hops);
-            add_slots(&region.half(true), below, slot + (1 << below), survey, hops);
+            add_halves(region, depth, slot, survey, hops);
         }
     }
 }
@@ -112,8 +135,7 @@ pub(crate) fn survey_slots<R: Region>(region: &R, hops: &mut [u16]) -> Vectors
         },
         leaves: 0,
     };
-    add_slots(&region.half(false), 5, 0, &mut survey, hops);
-    add_slots(&region.half(true), 5, 32, &mut survey, hops);
+    add_halves(region, 6, 0, &mut survey, hops);
     let vectors = survey.vectors;
     Vectors {
         vector: vectors.vector,

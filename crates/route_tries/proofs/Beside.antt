@@ -112,12 +112,6 @@ along_step depth left q f g out b z w bit half o =
     ∙ (ap (part (take (depth - 1) (bits_of (left - 1) q))) half
     ∙ sym (ap (λ n. part (take n (bits_of left q)) f) s ∙ ap (λ (p : List Bool). part (take (suc (depth - 1)) p) f) (next_is left q b z bit)))
 
-pub along_end : (depth left q : ℕ) (f g : List Bool → ℕ) (b : Bool) → left ≢ 0 → depth ≡ 1 → b ≡ nat_eq (bit_at q (left - 1)) 1 → g ≡ side b f → g ≡ part (take depth (bits_of left q)) f
-along_end depth left q f g b z w bit half =
-    let n : 0 ≡ depth - 1 = omega (arith, w) in
-    let m : depth ≢ 0 = λ x. omega (arith, w, x) in
-    along_step depth left q f g g b z m bit half (ap (λ k. part (take k (bits_of (left - 1) q)) g) n)
-
 -- ---- the need that is counted
 pub short_path : (d left q : ℕ) (f : List Bool → ℕ) → left ≤ 6 → lasts (d - 6) (part (take 6 (bits_of left q)) f) (drop 6 (bits_of left q)) ≡ false
 short_path d left q f l =

@@ -68,11 +68,14 @@ fn along<R: Region>(region: &R, depth: u8, q: u128, left: u8) -> R
     ensures bits { R.bits result + depth ≡ R.bits region.now }
     ensures answers { R.answers result ≡ part (take depth (bits_of left q)) (R.answers region.now) }
 {
-    let half = region.half(bit_at(q, left - 1));
-    if depth == 1 {
-        return half;
+    let end = left - depth;
+    let mut at = left - 1;
+    let mut part = region.half(bit_at(q, at));
+    while at > end {
+        at -= 1;
+        part = part.half(bit_at(q, at));
     }
-    along(&half, depth - 1, q, left - 1)
+    part
 }
 
 /// `count_way` from the deepest node on that lasts on the way to a path, or else from the region's own.

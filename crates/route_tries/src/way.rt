@@ -49,19 +49,22 @@ fn tally_halves<R: Region>(region: &R, depth: u8, q: u128, left: u8, tally: &mut
     ensures nodes { tally.new.nodes ≤ tally.old.nodes + 2 ^ depth }
     ensures leaves { tally.new.leaves ≤ tally.old.leaves + 2 ^ depth }
 {
+    let low = region.half(false);
+    let high = region.half(true);
+    let below = depth - 1;
     if left == 0 {
-        tally_way(&region.half(false), depth - 1, q, 0, tally);
-        tally_way(&region.half(true), depth - 1, q, 0, tally);
+        tally_way(&low, below, q, 0, tally);
+        tally_way(&high, below, q, 0, tally);
         return;
     }
     let rest = left - 1;
     if (q >> rest) & 1 == 1 {
-        tally_beside(&region.half(false), depth - 1, tally);
-        tally_way(&region.half(true), depth - 1, q, rest, tally);
+        tally_beside(&low, below, tally);
+        tally_way(&high, below, q, rest, tally);
         return;
     }
-    tally_way(&region.half(false), depth - 1, q, rest, tally);
-    tally_beside(&region.half(true), depth - 1, tally);
+    tally_way(&low, below, q, rest, tally);
+    tally_beside(&high, below, tally);
 }
 
 /// Adds the slots of one more part of a node's region, a part on the way, which `depth` more bits tell apart. A part with
@@ -91,8 +94,29 @@ fn tally_way<R: Region>(region: &R, depth: u8, q: u128, left: u8, tally: &mut Ta
     }
 }
 
-/// The same of a part beside the way: nothing is needed below its slots.
-#[cycle(tally_beside)]
+/// The same as `tally_halves` of a part beside the way: nothing is needed below its slots.
+#[cycle(halves_beside)]
+fn halves_beside<R: Region>(region: &R, depth: u8, tally: &mut Tally)
+    requires mixed { one_answer (R.bits region.now) (R.answers region.now) ≡ None }
+    requires some { 0 < depth }
+    requires nodes { tally.old.nodes + 2 ^ depth ≤ 64 }
+    requires leaves { tally.old.leaves + 2 ^ depth ≤ 64 }
+    ensures tally { (e v : ℕ) (r : ℕ → List Bool → ℕ) (N L : ℕ → ℕ)
+        → AreParts depth (R.bits region.now) (R.answers region.now) e r v
+        → AreBeside depth N L v → IsTally tally.old (λ u. one_answer e (r u)) N L v
+        → IsTally tally.new (λ u. one_answer e (r u)) N L (v + 2 ^ depth) }
+    ensures nodes { tally.new.nodes ≤ tally.old.nodes + 2 ^ depth }
+    ensures leaves { tally.new.leaves ≤ tally.old.leaves + 2 ^ depth }
+{
+    let low = region.half(false);
+    let high = region.half(true);
+    tally_beside(&low, depth - 1, tally);
+    tally_beside(&high, depth - 1, tally);
+}
+
+/// The same as `tally_way` of a part beside the way.
+#[cycle(halves_beside)]
+#[inline(always)]
 fn tally_beside<R: Region>(region: &R, depth: u8, tally: &mut Tally)
     requires nodes { tally.old.nodes + 2 ^ depth ≤ 64 }
     requires leaves { tally.old.leaves + 2 ^ depth ≤ 64 }
@@ -114,8 +138,7 @@ fn tally_beside<R: Region>(region: &R, depth: u8, tally: &mut Tally)
                 tally.add_node(nothing);
                 return;
             }
-            tally_beside(&region.half(false), depth - 1, tally);
-            tally_beside(&region.half(true), depth - 1, tally);
+            halves_beside(region, depth, tally);
         }
     }
 }

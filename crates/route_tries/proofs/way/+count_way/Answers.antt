@@ -24,14 +24,11 @@ count_way-returns g t c =
     in
     record { nodes = λ k h. (need k h).nodes; leaves = λ k h. (need k h).leaves }
 
-pub tally_halves-half-requires : goal.tally_halves-half-requires
-tally_halves-half-requires g t c = mixed_bits (g.R.Region.bits c.args.region.now) (g.R.Region.answers c.args.region.now) c.requires.mixed
+pub tally_halves-half-low-requires : goal.tally_halves-half-low-requires
+tally_halves-half-low-requires g t c = mixed_bits (g.R.Region.bits c.args.region.now) (g.R.Region.answers c.args.region.now) c.requires.mixed
 
-pub tally_halves-half-requires-then-q-rest-eq1 : goal.tally_halves-half-requires-then-q-rest-eq1
-tally_halves-half-requires-then-q-rest-eq1 g t c = mixed_bits (g.R.Region.bits c.args.region.now) (g.R.Region.answers c.args.region.now) c.requires.mixed
-
-pub tally_halves-half-requires-2 : goal.tally_halves-half-requires-2
-tally_halves-half-requires-2 g t c = mixed_bits (g.R.Region.bits c.args.region.now) (g.R.Region.answers c.args.region.now) c.requires.mixed
+pub tally_halves-half-high-requires : goal.tally_halves-half-high-requires
+tally_halves-half-high-requires g t c = mixed_bits (g.R.Region.bits c.args.region.now) (g.R.Region.answers c.args.region.now) c.requires.mixed
 
 pub tally_halves-returns-then-left-eq0-clause-tally : goal.tally_halves-returns-then-left-eq0-clause-tally
 tally_halves-returns-then-left-eq0-clause-tally g t c = λ k e v r N L h a w i.
@@ -42,8 +39,8 @@ tally_halves-returns-then-left-eq0-clause-tally g t c = λ k e v r N L h a w i.
     let some : j ≢ 0 = omega (arith, c.requires.some) in
     let none = no_bit c.args.left c.args.q c.if-left-eq0.true in
     let rest = no_bit 0 c.args.q refl in
-    let low = c.tally_way.ensures.tally k e v r N L h (parts_low j d e v f r some (g.R.Region.bits c.half.result) (g.R.Region.answers c.half.result) c.half.ensures.bits a c.half.ensures.answers) (within_low j k e v r N L some p (bits_of 0 c.args.q) none rest w) i in
-    let high = c.tally_way-then-left-eq0.ensures.tally k e (v + 2 ^ (j - 1)) r N L h (parts_high j d e v f r some (g.R.Region.bits c.half-then-left-eq0.result) (g.R.Region.answers c.half-then-left-eq0.result) c.half-then-left-eq0.ensures.bits a c.half-then-left-eq0.ensures.answers) (within_high j k e v r N L some p (bits_of 0 c.args.q) none rest w) low in
+    let low = c.tally_way.ensures.tally k e v r N L h (parts_low j d e v f r some (g.R.Region.bits c.half-low.result) (g.R.Region.answers c.half-low.result) c.half-low.ensures.bits a c.half-low.ensures.answers) (within_low j k e v r N L some p (bits_of 0 c.args.q) none rest w) i in
+    let high = c.tally_way-then-left-eq0.ensures.tally k e (v + 2 ^ (j - 1)) r N L h (parts_high j d e v f r some (g.R.Region.bits c.half-high.result) (g.R.Region.answers c.half-high.result) c.half-high.ensures.bits a c.half-high.ensures.answers) (within_high j k e v r N L some p (bits_of 0 c.args.q) none rest w) low in
     let all : v + 2 ^ (j - 1) + 2 ^ (j - 1) ≡ v + 2 ^ j = omega (arith, halved j some) in
     subst (λ (x : ℕ). IsTally c.tally_way-then-left-eq0.new.tally (λ u. one_answer e (r u)) N L x) all high
 
@@ -55,8 +52,8 @@ tally_halves-returns-then-q-rest-eq1-clause-tally g t c = λ k e v r N L h a w i
     let p = bits_of c.args.left c.args.q in
     let some : j ≢ 0 = omega (arith, c.requires.some) in
     let next = next_bit c.args.left c.args.q (bit_and (c.args.q / 2 ^ (c.args.left - 1)) 1) c.if-left-eq0.false refl in
-    let low = c.tally_beside.ensures.tally e v r N L (parts_low j d e v f r some (g.R.Region.bits c.half-then-q-rest-eq1.result) (g.R.Region.answers c.half-then-q-rest-eq1.result) c.half-then-q-rest-eq1.ensures.bits a c.half-then-q-rest-eq1.ensures.answers) (off_low j k e v r N L some p (bits_of (c.args.left - 1) c.args.q) (nat_eq (bit_and (c.args.q / 2 ^ (c.args.left - 1)) 1) 1) next (eq-eqb (bit_and (c.args.q / 2 ^ (c.args.left - 1)) 1) 1 c.if-q-rest-eq1.true) w) i in
-    let high = c.tally_way-then-q-rest-eq1.ensures.tally k e (v + 2 ^ (j - 1)) r N L h (parts_high j d e v f r some (g.R.Region.bits c.half-then-q-rest-eq1-2.result) (g.R.Region.answers c.half-then-q-rest-eq1-2.result) c.half-then-q-rest-eq1-2.ensures.bits a c.half-then-q-rest-eq1-2.ensures.answers) (on_high j k e v r N L some p (bits_of (c.args.left - 1) c.args.q) (nat_eq (bit_and (c.args.q / 2 ^ (c.args.left - 1)) 1) 1) next (eq-eqb (bit_and (c.args.q / 2 ^ (c.args.left - 1)) 1) 1 c.if-q-rest-eq1.true) w) low in
+    let low = c.tally_beside.ensures.tally e v r N L (parts_low j d e v f r some (g.R.Region.bits c.half-low.result) (g.R.Region.answers c.half-low.result) c.half-low.ensures.bits a c.half-low.ensures.answers) (off_low j k e v r N L some p (bits_of (c.args.left - 1) c.args.q) (nat_eq (bit_and (c.args.q / 2 ^ (c.args.left - 1)) 1) 1) next (eq-eqb (bit_and (c.args.q / 2 ^ (c.args.left - 1)) 1) 1 c.if-q-rest-eq1.true) w) i in
+    let high = c.tally_way-then-q-rest-eq1.ensures.tally k e (v + 2 ^ (j - 1)) r N L h (parts_high j d e v f r some (g.R.Region.bits c.half-high.result) (g.R.Region.answers c.half-high.result) c.half-high.ensures.bits a c.half-high.ensures.answers) (on_high j k e v r N L some p (bits_of (c.args.left - 1) c.args.q) (nat_eq (bit_and (c.args.q / 2 ^ (c.args.left - 1)) 1) 1) next (eq-eqb (bit_and (c.args.q / 2 ^ (c.args.left - 1)) 1) 1 c.if-q-rest-eq1.true) w) low in
     let all : v + 2 ^ (j - 1) + 2 ^ (j - 1) ≡ v + 2 ^ j = omega (arith, halved j some) in
     subst (λ (x : ℕ). IsTally c.tally_way-then-q-rest-eq1.new.tally (λ u. one_answer e (r u)) N L x) all high
 
@@ -68,8 +65,8 @@ tally_halves-returns-clause-tally g t c = λ k e v r N L h a w i.
     let p = bits_of c.args.left c.args.q in
     let some : j ≢ 0 = omega (arith, c.requires.some) in
     let next = next_bit c.args.left c.args.q (bit_and (c.args.q / 2 ^ (c.args.left - 1)) 1) c.if-left-eq0.false refl in
-    let low = c.tally_way-2.ensures.tally k e v r N L h (parts_low j d e v f r some (g.R.Region.bits c.half-2.result) (g.R.Region.answers c.half-2.result) c.half-2.ensures.bits a c.half-2.ensures.answers) (on_low j k e v r N L some p (bits_of (c.args.left - 1) c.args.q) (nat_eq (bit_and (c.args.q / 2 ^ (c.args.left - 1)) 1) 1) next (ne_eqb (bit_and (c.args.q / 2 ^ (c.args.left - 1)) 1) 1 c.if-q-rest-eq1.false) w) i in
-    let high = c.tally_beside-2.ensures.tally e (v + 2 ^ (j - 1)) r N L (parts_high j d e v f r some (g.R.Region.bits c.half-3.result) (g.R.Region.answers c.half-3.result) c.half-3.ensures.bits a c.half-3.ensures.answers) (off_high j k e v r N L some p (bits_of (c.args.left - 1) c.args.q) (nat_eq (bit_and (c.args.q / 2 ^ (c.args.left - 1)) 1) 1) next (ne_eqb (bit_and (c.args.q / 2 ^ (c.args.left - 1)) 1) 1 c.if-q-rest-eq1.false) w) low in
+    let low = c.tally_way-2.ensures.tally k e v r N L h (parts_low j d e v f r some (g.R.Region.bits c.half-low.result) (g.R.Region.answers c.half-low.result) c.half-low.ensures.bits a c.half-low.ensures.answers) (on_low j k e v r N L some p (bits_of (c.args.left - 1) c.args.q) (nat_eq (bit_and (c.args.q / 2 ^ (c.args.left - 1)) 1) 1) next (ne_eqb (bit_and (c.args.q / 2 ^ (c.args.left - 1)) 1) 1 c.if-q-rest-eq1.false) w) i in
+    let high = c.tally_beside-2.ensures.tally e (v + 2 ^ (j - 1)) r N L (parts_high j d e v f r some (g.R.Region.bits c.half-high.result) (g.R.Region.answers c.half-high.result) c.half-high.ensures.bits a c.half-high.ensures.answers) (off_high j k e v r N L some p (bits_of (c.args.left - 1) c.args.q) (nat_eq (bit_and (c.args.q / 2 ^ (c.args.left - 1)) 1) 1) next (ne_eqb (bit_and (c.args.q / 2 ^ (c.args.left - 1)) 1) 1 c.if-q-rest-eq1.false) w) low in
     let all : v + 2 ^ (j - 1) + 2 ^ (j - 1) ≡ v + 2 ^ j = omega (arith, halved j some) in
     subst (λ (x : ℕ). IsTally c.tally_beside-2.new.tally (λ u. one_answer e (r u)) N L x) all high
 
