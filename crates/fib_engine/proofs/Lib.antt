@@ -6,3 +6,4 @@ pub mod Needing
 pub mod Erring
 pub mod Staging
 pub mod Alike
+pub mod Carrying

@@ -18,8 +18,9 @@ use Rattle.fib_addr.specs.declared.entry.Hop as code_hop
 use Rattle.fib_addr.specs.declared.prefix.Prefix as code_prefix
 use Rattle.fib_delta.proofs.Held.{is_prefix}
 use Rattle.fib_prefix.specs.Views.{elem_as}
+use Rattle.fib_prefix.specs.declared.event.Elem as code_elem
 use Rattle.orig_tree.specs.Views.{InPlace}
-use Rattle.route_choice.specs.Held.{IsChoice, pick_elem, pick_choice}
+use Rattle.route_choice.specs.Held.{IsChoice}
 use Rattle.route_choice.specs.declared.choice.Choice.{Choice}
 use Rattle.fib_delta.specs.Views.{change_as}
 use Rattle.fib_delta.specs.declared.change.Change as code_change
@@ -94,16 +95,13 @@ module _ (w : code_waiting.Waiting) (p : code_parts.Parts) (i : IsWaiting w p) w
   abbrev N : Entries
   N = entries_of H' (after_elem C elem)
 
-  choice_is : IsChoice C elem (pick_choice w.pick)
-  choice_is = subst (λ (y : Elem). IsChoice C y (pick_choice w.pick)) i.elem i.pick.choice
+  pub turn_of_plan : (f : Family) → with_planned (route_in f w.chosen.route) (only f (entries_of H C)) ≡ only f N
+  turn_of_plan f = routes_turn C H elem i.sound.elems i.sound.proper i.sound.candidates i.sound.hops (is_elem w.elem) i.choice i.chooses w.chosen.route i.route f
 
-  pub turn_of_plan : (f : Family) → with_planned (route_in f w.route) (only f (entries_of H C)) ≡ only f N
-  turn_of_plan f = routes_turn C H elem i.sound.elems i.sound.proper i.sound.candidates i.sound.hops (is_elem w.elem) (pick_choice w.pick) choice_is w.route i.route f
-
-  need_of_plan : needs_put p.limits.sizes.direct w.route i.before ≡ needs_of p.limits.sizes.direct N
+  need_of_plan : needs_put p.limits.sizes.direct w.chosen.route i.before ≡ needs_of p.limits.sizes.direct N
   need_of_plan =
-      needs_known p.limits.sizes.direct (with_planned (route_in V4 w.route) i.before.v4.routes) (with_planned (route_in V6 w.route) i.before.v6.routes) N (ap (with_planned (route_in V4 w.route)) i.sound.v4.routes ∙ turn_of_plan V4)
-      (ap (with_planned (route_in V6 w.route)) i.sound.v6.routes ∙ turn_of_plan V6)
+      needs_known p.limits.sizes.direct (with_planned (route_in V4 w.chosen.route) i.before.v4.routes) (with_planned (route_in V6 w.chosen.route) i.before.v6.routes) N (ap (with_planned (route_in V4 w.chosen.route)) i.sound.v4.routes ∙ turn_of_plan V4)
+      (ap (with_planned (route_in V6 w.chosen.route)) i.sound.v6.routes ∙ turn_of_plan V6)
 
   pub fit_of_plan : shortage (sizes_as p.limits.sizes) N ≡ None
   fit_of_plan = ap (first_short (sizes_as p.limits.sizes)) (sym need_of_plan) ∙ i.fits
@@ -113,18 +111,18 @@ module _ (w : code_waiting.Waiting) (p : code_parts.Parts) (i : IsWaiting w p) w
 
   -- the trees have the routes after the event
   pub tree_of_plan : (f : Family) → (labels_of f p.tables).routes ≡ only f N
-  tree_of_plan V4 = i.put.v4 ∙ (ap (with_planned (route_in V4 w.route)) i.sound.v4.routes ∙ turn_of_plan V4)
-  tree_of_plan V6 = i.put.v6 ∙ (ap (with_planned (route_in V6 w.route)) i.sound.v6.routes ∙ turn_of_plan V6)
+  tree_of_plan V4 = i.put.v4 ∙ (ap (with_planned (route_in V4 w.chosen.route)) i.sound.v4.routes ∙ turn_of_plan V4)
+  tree_of_plan V6 = i.put.v6 ∙ (ap (with_planned (route_in V6 w.chosen.route)) i.sound.v6.routes ∙ turn_of_plan V6)
 
   pub family_of_plan : (f : Family) → (labels_of f p.tables).family ≡ f
   family_of_plan V4 = i.tables.v4_family ∙ i.sound.v4.family
   family_of_plan V6 = i.tables.v6_family ∙ i.sound.v6.family
 
-  pub prefix_of_plan : option_map (λ r. prefix_as r.0) w.route ≡ changed_at C elem
-  prefix_of_plan = route_changed C H elem i.sound.elems i.sound.proper i.sound.candidates i.sound.hops (is_elem w.elem) (pick_choice w.pick) choice_is w.route i.route
+  pub prefix_of_plan : option_map (λ r. prefix_as r.0) w.chosen.route ≡ changed_at C elem
+  prefix_of_plan = route_changed C H elem i.sound.elems i.sound.proper i.sound.candidates i.sound.hops (is_elem w.elem) i.choice i.chooses w.chosen.route i.route
 
   -- it changes what the prefix's addresses get alone
-  pub within_plan : (r : code_prefix.Prefix × code_hop.Hop) → w.route ≡ Some r → AreAlikeOutside (prefix_as r.0) (entries_of H C) N
+  pub within_plan : (r : code_prefix.Prefix × code_hop.Hop) → w.chosen.route ≡ Some r → AreAlikeOutside (prefix_as r.0) (entries_of H C) N
   within_plan r e a out =
       let E = entries_of H C in
       let t = subst (λ (o : Route). with_planned (route_in a.family o) (only a.family E) ≡ only a.family N) e (turn_of_plan a.family) in
@@ -134,35 +132,32 @@ module _ (w : code_waiting.Waiting) (p : code_parts.Parts) (i : IsWaiting w p) w
       stays true = routes_outside (prefix_as r.0) r.1.0 (only a.family (entries_of H C)) a (is_prefix r.0) (only_placed a.family (entries_of H C) (routes_placed C H true i.before i.sound)).0 out
       stays false = refl
 
-  pub outside_plan : (q : Prefix) → option_map (λ r. prefix_as r.0) w.route ≡ Some q → AreAlikeOutside q (entries_of H C) N
-  outside_plan q e = by w.route refl e
+  pub outside_plan : (q : Prefix) → option_map (λ r. prefix_as r.0) w.chosen.route ≡ Some q → AreAlikeOutside q (entries_of H C) N
+  outside_plan q e = by w.chosen.route refl e
     where
-      by : (o : Route) → w.route ≡ o → option_map (λ r. prefix_as r.0) o ≡ Some q → AreAlikeOutside q (entries_of H C) N
+      by : (o : Route) → w.chosen.route ≡ o → option_map (λ r. prefix_as r.0) o ≡ Some q → AreAlikeOutside q (entries_of H C) N
       by None is e = absurd (cc)
       by (Some r) is e = subst (λ (x : Prefix). AreAlikeOutside x (entries_of H C) N) (some_same e) (within_plan r is)
 
   -- once it is made, with these candidates, hops and tables
-  module _ (D : Candidates) (G : List Address) (m : Both) (dc : D ≡ after_elem C (pick_elem w.pick)) (gh : G ≡ H') (kr : KeepRoutes p.tables m) (v4 : MadeBy w.fitting.plan.v4 p.tables.v4 m.v4) (v6 : MadeBy w.fitting.plan.v6 p.tables.v6 m.v6) where
-    made : IsTaken p.limits.fewest p.limits.every (p.events + 1) C H elem w.route i.before m w.fitting.plan.v4 w.fitting.plan.v6
+  module _ (D : Candidates) (G : List Address) (m : Both) (dc : D ≡ after_elem C elem) (gh : G ≡ H') (kr : KeepRoutes p.tables m) (v4 : MadeBy w.fitting.plan.v4 p.tables.v4 m.v4) (v6 : MadeBy w.fitting.plan.v6 p.tables.v6 m.v6) where
+    made : IsTaken p.limits.fewest p.limits.every (p.events + 1) C H elem w.chosen.route i.before m w.fitting.plan.v4 w.fitting.plan.v6
     made =
-        taken p.limits.fewest p.limits.every (p.events + 1) C H elem i.before p.tables m (pick_choice w.pick) w.route w.fitting.plan.v4 w.fitting.plan.v6 (is_due p.limits.every (p.events + 1)) i.sound (is_elem w.elem) i.few choice_is i.route i.tables i.put i.told kr v4 v6 refl
-
-    held : D ≡ after_elem C elem
-    held = dc ∙ ap (after_elem C) i.elem
+        taken p.limits.fewest p.limits.every (p.events + 1) C H elem i.before p.tables m i.choice w.chosen.route w.fitting.plan.v4 w.fitting.plan.v6 (is_due p.limits.every (p.events + 1)) i.sound (is_elem w.elem) i.few i.chooses i.route i.tables i.put i.told kr v4 v6 refl
 
     routes : entries_of G D ≡ N
-    routes = ap (λ (hs : List Address). entries_of hs D) gh ∙ ap (entries_of H') held
+    routes = ap (λ (hs : List Address). entries_of hs D) gh ∙ ap (entries_of H') dc
 
     pub made_sound : IsSound D G p.is_loaded m × AreKeptNeeds (sizes_as p.limits.sizes) (if_loaded p.is_loaded (entries_of G D)) w.fitting.needs
     made_sound = (
-      subst (λ (b : Bool). IsSound D G b m) (sym i.loaded) (subst (λ (X : Candidates). IsSound X G true m) (sym held) (subst (λ (hs : List Address). IsSound (after_elem C elem) hs true m) (sym gh) made.sound)),
+      subst (λ (b : Bool). IsSound D G b m) (sym i.loaded) (subst (λ (X : Candidates). IsSound X G true m) (sym dc) (subst (λ (hs : List Address). IsSound (after_elem C elem) hs true m) (sym gh) made.sound)),
       subst (λ (b : Bool). AreKeptNeeds (sizes_as p.limits.sizes) (if_loaded b (entries_of G D)) w.fitting.needs) (sym i.loaded) (subst (λ (E : Entries). AreKeptNeeds (sizes_as p.limits.sizes) E w.fitting.needs) (sym routes) (record {
         needs = i.needs ∙ need_of_plan;
         fit = fit_of_plan;
       })),
     )
 
-    pub made_takes : (first : ℕ) (moves : Option ℕ) → first ≡ w.fitting.plan.changes.first → moves ≡ option_map (λ r. first) w.route
+    pub made_takes : (first : ℕ) (moves : Option ℕ) → first ≡ w.fitting.plan.changes.first → moves ≡ option_map (λ r. first) w.chosen.route
         → TakesElem elem (state_in p) (record {
           every = p.limits.every;
           fewest = p.limits.fewest;
@@ -175,7 +170,7 @@ module _ (w : code_waiting.Waiting) (p : code_parts.Parts) (i : IsWaiting w p) w
           moves = moves;
         })
     made_takes first moves is e = record {
-      candidates = held;
+      candidates = dc;
       hops = gh;
       every = refl;
       fewest = refl;
@@ -195,9 +190,9 @@ module _ (w : code_waiting.Waiting) (p : code_parts.Parts) (i : IsWaiting w p) w
     made_first = ap length made.first ∙ ap (λ (t : Entries). length (first_changes p.limits.fewest H' C t elem)) (sym same_table)
 
 -- ---- an event of which it is known what it chooses
-module _ (c : code_chosen.Chosen) (p : code_parts.Parts) (i : IsChosenIn c p) where
+module _ (x : code_elem.Elem) (c : code_chosen.Chosen) (p : code_parts.Parts) (i : IsChosenIn x c p) where
   abbrev AfterIt : Entries
-  AfterIt = entries_of (hops_after p.hops.list (elem_as c.elem ∷ [])) (after_elem p.candidates.candidates (elem_as c.elem))
+  AfterIt = entries_of (hops_after p.hops.list (elem_as x ∷ [])) (after_elem p.candidates.candidates (elem_as x))
 
   pub chosen_needs : needs_of_both p.limits.sizes.direct p.tables.v4.routes p.tables.v6.routes ≡ needs_of p.limits.sizes.direct (entries_of p.hops.list p.candidates.candidates)
   chosen_needs = needs_known p.limits.sizes.direct p.tables.v4.routes p.tables.v6.routes (entries_of p.hops.list p.candidates.candidates) i.sound.v4.routes i.sound.v6.routes
@@ -208,7 +203,7 @@ module _ (c : code_chosen.Chosen) (p : code_parts.Parts) (i : IsChosenIn c p) wh
       (ap (with_planned (route_in V6 c.route)) i.sound.v6.routes ∙ turn V6)
     where
       turn : (f : Family) → with_planned (route_in f c.route) (only f (entries_of p.hops.list p.candidates.candidates)) ≡ only f AfterIt
-      turn f = routes_turn p.candidates.candidates p.hops.list (elem_as c.elem) i.sound.elems i.sound.proper i.sound.candidates i.sound.hops (is_elem c.elem) (pick_choice c.pick) (subst (λ (y : Elem). IsChoice p.candidates.candidates y (pick_choice c.pick)) i.elem i.pick.choice) c.route i.route f
+      turn f = routes_turn p.candidates.candidates p.hops.list (elem_as x) i.sound.elems i.sound.proper i.sound.candidates i.sound.hops (is_elem x) i.choice i.chooses c.route i.route f
 
   -- it changes no chosen hop, and no snapshot follows it: it is as one whose plan changes nothing
   module _ (e : EventChanges) (none : c.route ≡ None) (due : is_due p.limits.every (p.events + 1) ≡ false) (empty : e.changes.items ≡ []) (zero : e.first ≡ 0) where
@@ -216,7 +211,7 @@ module _ (c : code_chosen.Chosen) (p : code_parts.Parts) (i : IsChosenIn c p) wh
     nothing = record { former = None; cleared = false; reach = None; due = false; fewest = p.limits.fewest; moved = record { repair = e.changes; snapshot = e.changes } }
 
     abbrev passing : code_waiting.Waiting
-    passing = record { elem = c.elem; own = c.own; route = None; pick = c.pick; fitting = record { plan = record { v4 = nothing; v6 = nothing; changes = e }; needs = p.needs } }
+    passing = record { elem = x; chosen = record { route = None; own = c.own }; fitting = record { plan = record { v4 = nothing; v6 = nothing; changes = e }; needs = p.needs } }
 
     waits : IsWaiting passing p
     waits = record {
@@ -237,9 +232,10 @@ module _ (c : code_chosen.Chosen) (p : code_parts.Parts) (i : IsChosenIn c p) wh
       undone = record { v4 = refl; v6 = refl };
       changes = subst (λ (cs : List code_change.Change). map change_as cs ≡ (map change_as cs ++ map change_as cs) ++ (map change_as cs ++ map change_as cs)) (sym empty) refl;
       first = zero ∙ subst (λ (cs : List code_change.Change). 0 ≡ length (map change_as cs ++ map change_as cs)) (sym empty) refl;
-      pick = i.pick;
-      elem = i.elem;
-      route = subst (λ (r : Route). IsRouteOf (hops_after p.hops.list (elem_as c.elem ∷ [])) (pick_choice c.pick) r) none i.route;
+      in_room = i.in_room;
+      choice = i.choice;
+      chooses = i.chooses;
+      route = subst (λ (r : Route). IsRouteOf (hops_after p.hops.list (elem_as x ∷ [])) i.choice r) none i.route;
       own = i.own;
       few = i.few;
       room = i.room;
@@ -255,11 +251,11 @@ module _ (c : code_chosen.Chosen) (p : code_parts.Parts) (i : IsChosenIn c p) wh
     stays_made T = subst (λ (cs : List code_change.Change). after_changes (map change_as cs ++ map change_as cs) T ≡ Some T) (sym empty) refl
 
     -- once it is made, with these candidates and hops
-    module _ (D : Candidates) (G : List Address) (dc : D ≡ after_elem p.candidates.candidates (pick_elem c.pick)) (gh : G ≡ hops_after p.hops.list (elem_as c.elem ∷ [])) where
+    module _ (D : Candidates) (G : List Address) (dc : D ≡ after_elem p.candidates.candidates (elem_as x)) (gh : G ≡ hops_after p.hops.list (elem_as x ∷ [])) where
       pub passed_sound : IsSound D G p.is_loaded p.tables × AreKeptNeeds (sizes_as p.limits.sizes) (if_loaded p.is_loaded (entries_of G D)) p.needs
       passed_sound = made_sound passing p waits D G p.tables dc gh keeps (stays_made p.tables.v4.entries) (stays_made p.tables.v6.entries)
 
-      pub passed_takes : TakesElem (elem_as c.elem) (state_in p) (record {
+      pub passed_takes : TakesElem (elem_as x) (state_in p) (record {
         every = p.limits.every;
         fewest = p.limits.fewest;
         sizes = sizes_as p.limits.sizes;
@@ -272,10 +268,10 @@ module _ (c : code_chosen.Chosen) (p : code_parts.Parts) (i : IsChosenIn c p) wh
       })
       passed_takes = made_takes passing p waits D G p.tables dc gh keeps (stays_made p.tables.v4.entries) (stays_made p.tables.v6.entries) e.first None refl refl
 
-      pub passed_changes : map change_as e.changes.items ≡ changes_of (elem_as c.elem) (state_in p)
+      pub passed_changes : map change_as e.changes.items ≡ changes_of (elem_as x) (state_in p)
       passed_changes = waits.changes ∙ made_changes passing p waits D G p.tables dc gh keeps (stays_made p.tables.v4.entries) (stays_made p.tables.v6.entries)
 
-      pub passed_first : e.first ≡ length (first_of (elem_as c.elem) (state_in p))
+      pub passed_first : e.first ≡ length (first_of (elem_as x) (state_in p))
       passed_first = waits.first ∙ made_first passing p waits D G p.tables dc gh keeps (stays_made p.tables.v4.entries) (stays_made p.tables.v6.entries)
 
 -- ---- the trees

@@ -14,7 +14,7 @@ use crate::fitting::{FittingPlan, plan_fitting};
 use crate::numbers::{changed_route, number_hop, number_put};
 use crate::tables::{EventChanges, Tables};
 use fib_prefix::{Elem, Hop, HopTable, Prefix};
-use route_choice::{Candidates, Pick};
+use route_choice::Candidates;
 use route_tries::FamilyNeeds;
 use std::alloc::Global;
 
@@ -36,25 +36,19 @@ pub(crate) struct Parts {
 }
 
 /// What an event chooses, before the tables are asked.
-#[derive(Drop)]
+#[derive(Clone, Copy)]
 pub(crate) struct Chosen {
-    pub(crate) elem: Elem,
-    // the number that its hop has or gets, if it puts a route
-    pub(crate) own: Option<Hop>,
     // the route that changes, if it changes a chosen hop
     pub(crate) route: Option<(Prefix, Hop)>,
-    pub(crate) pick: Pick,
+    // the number that the event's hop has or gets, if it puts a route
+    pub(crate) own: Option<Hop>,
 }
 
 /// A planned event with all that it takes.
 #[derive(Drop)]
 pub(crate) struct Waiting {
     pub(crate) elem: Elem,
-    // the number that its hop has or gets, if it puts a route
-    pub(crate) own: Option<Hop>,
-    // the route that changes, if it changes a chosen hop
-    pub(crate) route: Option<(Prefix, Hop)>,
-    pub(crate) pick: Pick,
+    pub(crate) chosen: Chosen,
     pub(crate) fitting: FittingPlan,
 }
 
@@ -66,8 +60,8 @@ fn is_due(every: u32, event: u64) -> bool
 }
 
 /// How many changes an event's first step made, if the event changed a route.
-fn moves_made(route: Option<(Prefix, Hop)>, changes: &EventChanges) -> Option<u64>
-    ensures { result ≡ option_map (λ r. changes.now.first) route }
+fn moves_made(route: &Option<(Prefix, Hop)>, changes: &EventChanges) -> Option<u64>
+    ensures { result ≡ option_map (λ r. changes.now.first) route.now }
 {
     match route {
         Some(_) => Some(changes.first as u64),
@@ -86,8 +80,7 @@ impl Parts {
         requires loaded { self.old.is_loaded ≡ true }
         requires few { self.old.events + 1 < 2 ^ 64 }
         ensures seen { state_in self.new ≡ state_in self.old }
-        ensures elem { IfOk result (λ c. c.elem ≡ elem.now) }
-        ensures chosen { IfOk result (λ c. IsChosenIn c self.new) }
+        ensures chosen { IfOk result (λ c. IsChosenIn elem.now c self.new) }
         ensures full { IsErrOf result EngineError.HopsFull
             ↔ IsTooMany (elem_as elem.now) (state_in self.old) }
         ensures fits { (t : TrieFull) → ¬ (IsErrOf result (EngineError.TrieFull t)) }
@@ -95,14 +88,9 @@ impl Parts {
     {
         let own = number_put(&self.hops, elem)?;
         self.hops.room()?;
-        let pick = self.candidates.plan(elem)?;
-        let route = changed_route(&self.hops, own, pick.choice());
-        Ok(Chosen {
-            elem: *elem,
-            own,
-            route,
-            pick,
-        })
+        let choice = self.candidates.choose(elem)?;
+        let route = changed_route(&self.hops, own, &choice);
+        Ok(Chosen { route, own })
     }
 
     /// Plans the tables for an event of which it is known what it chooses.
@@ -110,14 +98,14 @@ impl Parts {
     /// # Errors
     ///
     /// `TrieFull` as `Engine::apply`'s, or out of memory; then all is as it was.
-    fn plan_chosen(&mut self, chosen: Chosen) -> Result<Waiting, EngineError>
-        requires { IsChosenIn chosen self.old }
+    fn plan_chosen(&mut self, elem: &Elem, chosen: &Chosen) -> Result<FittingPlan, EngineError>
+        requires { IsChosenIn elem.now chosen.now self.old }
         ensures seen { state_in self.new ≡ state_in self.old }
-        ensures elem { IfOk result (λ w. w.elem ≡ chosen.elem) }
-        ensures waiting { IfOk result (λ w. IsWaiting w self.new) }
+        ensures waiting { IfOk result (λ f. IsWaiting (record { elem = elem.now; chosen = chosen.now; fitting = f })
+            self.new) }
         ensures hops { ¬ (IsErrOf result EngineError.HopsFull) }
         ensures short { (t : TrieFull) → IsErrOf result (EngineError.TrieFull t)
-            → IsShortFor (state_in self.old) (routes_after (elem_as chosen.elem) (state_in self.old)) t }
+            → IsShortFor (state_in self.old) (routes_after (elem_as elem.now) (state_in self.old)) t }
         ensures err { OnErr result (AreSound self.new) }
     {
         let limits = &self.limits;
@@ -131,13 +119,7 @@ impl Parts {
             self.needs,
             &limits.sizes,
         )?;
-        Ok(Waiting {
-            elem: chosen.elem,
-            own: chosen.own,
-            route: chosen.route,
-            pick: chosen.pick,
-            fitting,
-        })
+        Ok(fitting)
     }
 
     /// Plans an elementary event after the load: all memory that it takes is taken. Nothing is seen of it but in the trees, which
@@ -160,7 +142,12 @@ impl Parts {
         ensures err { OnErr result (AreSound self.new) }
     {
         let chosen = self.choose(elem)?;
-        self.plan_chosen(chosen)
+        let fitting = self.plan_chosen(elem, &chosen)?;
+        Ok(Waiting {
+            elem: *elem,
+            chosen,
+            fitting,
+        })
     }
 
     /// Whether an event changes no chosen hop, and no snapshot follows it: then no table changes.
@@ -173,18 +160,19 @@ impl Parts {
     }
 
     /// Makes an event that changes no chosen hop, if no snapshot follows it: no table is touched. It takes no memory.
-    fn pass(&mut self, chosen: Chosen) -> EventChanges
-        requires chosen { IsChosenIn chosen self.old }
-        requires route { chosen.route ≡ None }
+    fn pass(&mut self, elem: &Elem, chosen: &Chosen) -> EventChanges
+        requires chosen { IsChosenIn elem.now chosen.now self.old }
+        requires route { chosen.now.route ≡ None }
         requires due { due_at self.old.limits.every (self.old.events + 1) ≡ false }
         ensures sound { AreSound self.new }
-        ensures takes { TakesElem (elem_as chosen.elem) (state_in self.old) (state_in self.new) }
+        ensures takes { TakesElem (elem_as elem.now) (state_in self.old) (state_in self.new) }
         ensures changes { map change_as result.changes.items
-            ≡ changes_of (elem_as chosen.elem) (state_in self.old) }
-        ensures first { result.first ≡ length (first_of (elem_as chosen.elem) (state_in self.old)) }
+            ≡ changes_of (elem_as elem.now) (state_in self.old) }
+        ensures first { result.first ≡ length (first_of (elem_as elem.now) (state_in self.old)) }
     {
-        self.candidates.commit(chosen.pick);
-        number_hop(&mut self.hops, chosen.own, &chosen.elem);
+        let candidates = &mut self.candidates;
+        candidates.carry();
+        number_hop(&mut self.hops, chosen.own, elem);
         self.events += 1;
         self.moves = None;
         EventChanges::none(self.alloc)
@@ -197,22 +185,22 @@ impl Parts {
     ///
     /// `TrieFull` as `Engine::apply`'s, or out of memory; then all is as it was.
     #[inline(never)]
-    fn make(&mut self, chosen: Chosen) -> Result<EventChanges, EngineError>
-        requires { IsChosenIn chosen self.old }
+    fn make(&mut self, elem: &Elem, chosen: &Chosen) -> Result<EventChanges, EngineError>
+        requires { IsChosenIn elem.now chosen.now self.old }
         ensures sound { AreSound self.new }
-        ensures takes { OnOk result (TakesElem (elem_as chosen.elem) (state_in self.old)
+        ensures takes { OnOk result (TakesElem (elem_as elem.now) (state_in self.old)
             (state_in self.new)) }
         ensures changes { IfOk result (λ e. map change_as e.changes.items
-            ≡ changes_of (elem_as chosen.elem) (state_in self.old)) }
+            ≡ changes_of (elem_as elem.now) (state_in self.old)) }
         ensures first { IfOk result (λ e. e.first
-            ≡ length (first_of (elem_as chosen.elem) (state_in self.old))) }
+            ≡ length (first_of (elem_as elem.now) (state_in self.old))) }
         ensures hops { ¬ (IsErrOf result EngineError.HopsFull) }
         ensures short { (t : TrieFull) → IsErrOf result (EngineError.TrieFull t)
-            → IsShortFor (state_in self.old) (routes_after (elem_as chosen.elem) (state_in self.old)) t }
+            → IsShortFor (state_in self.old) (routes_after (elem_as elem.now) (state_in self.old)) t }
         ensures err { OnErr result (state_in self.new ≡ state_in self.old) }
     {
-        let waiting = self.plan_chosen(chosen)?;
-        Ok(self.commit(waiting))
+        let fitting = self.plan_chosen(elem, chosen)?;
+        Ok(self.commit_fitting(elem, chosen, fitting))
     }
 
     /// Makes an elementary event after the load, and returns its changes. One that changes no chosen hop asks no table, unless a
@@ -239,9 +227,9 @@ impl Parts {
     {
         let chosen = self.choose(elem)?;
         if self.is_passed(&chosen) {
-            return Ok(self.pass(chosen));
+            return Ok(self.pass(elem, &chosen));
         }
-        let changes = self.make(chosen)?;
+        let changes = self.make(elem, &chosen)?;
         Ok(changes)
     }
 
@@ -254,12 +242,25 @@ impl Parts {
             ≡ changes_of (waiting_elem waiting) (state_in self.old) }
         ensures first { result.first ≡ length (first_of (waiting_elem waiting) (state_in self.old)) }
     {
-        self.candidates.commit(waiting.pick);
-        number_hop(&mut self.hops, waiting.own, &waiting.elem);
+        let fitting = waiting.fitting;
+        self.commit_fitting(&waiting.elem, &waiting.chosen, fitting)
+    }
+
+    /// The same of an event that stands apart from its plan.
+    fn commit_fitting(&mut self, elem: &Elem, chosen: &Chosen, fitting: FittingPlan) -> EventChanges
+        requires { IsWaiting (record { elem = elem.now; chosen = chosen.now; fitting = fitting }) self.old }
+        ensures sound { AreSound self.new }
+        ensures takes { TakesElem (elem_as elem.now) (state_in self.old) (state_in self.new) }
+        ensures changes { map change_as result.changes.items
+            ≡ changes_of (elem_as elem.now) (state_in self.old) }
+        ensures first { result.first ≡ length (first_of (elem_as elem.now) (state_in self.old)) }
+    {
+        self.candidates.carry();
+        number_hop(&mut self.hops, chosen.own, elem);
         self.events += 1;
-        self.needs = waiting.fitting.needs;
-        let changes = self.tables.commit(waiting.fitting.plan);
-        self.moves = moves_made(waiting.route, &changes);
+        self.needs = fitting.needs;
+        let changes = self.tables.commit(fitting.plan);
+        self.moves = moves_made(&chosen.route, &changes);
         changes
     }
 

@@ -145,8 +145,8 @@ impl Staged {
         let waiting = self.parts.plan(elem)?;
         let planned = Planned {
             elem: waiting.elem,
-            route: waiting.route,
-            brings: number_brought(&self.parts.hops, waiting.own, &waiting.elem),
+            route: waiting.chosen.route,
+            brings: number_brought(&self.parts.hops, waiting.chosen.own, &waiting.elem),
         };
         self.waiting = Some(waiting);
         Ok(planned)

@@ -1,6 +1,6 @@
 -- The room for a plan stays.
 use Rattle.std.proofs.Common.{◌≡◌, ◌++◌, ℕ, List, Bool, true, false, Option, Some, None, refl, sym, ap, subst, ◌∙◌}
-use Rattle.std.specs.Prelude.{◌||◌, MatchOption, is_some, option_map}
+use Rattle.std.specs.Prelude.{◌||◌, IfSome, MatchOption, is_some, option_map}
 use Rattle.std.proofs.lemmas.Option.{MatchOption-at_some, MatchOption-at_none}
 use Rattle.fib_prefix.specs.Views.{elem_as}
 use Rattle.route_model.specs.Events as model
@@ -21,7 +21,7 @@ use Rattle.adj_rib_in.proofs.Flats.{slot_stays}
 use Rattle.route_choice.specs.declared.plan.Plan.{Plan}
 use Rattle.route_choice.specs.Paths.{key_in}
 use Rattle.route_choice.specs.Kept.{KeepsBeside, holds_key, holds_rank}
-use Rattle.route_choice.specs.Space.{planned_elem, HasPlace, HasHopNumber, HasSpace}
+use Rattle.route_choice.specs.Space.{planned_elem, HasPlace, HasHopNumber, HasSpace, HasSpaceAt}
 
 no_key_stays : (b n : Flat) (t : PathKey) → flat_paths n ≡ flat_paths b → HasNoKey b t → HasNoKey n t
 no_key_stays b n t e h = ap (lookup (is_at (key_cmp t))) e ∙ h
@@ -54,8 +54,8 @@ kept_beside paths ranks earlier k = record {
     weaken a b h = ap (λ x. a || x) (or_none b) ∙ h
 
 -- room where the path key has a slot
-pub made_space : (b n : Flat) (p : Plan) (i : ℕ) → p.at ≡ Some i → HasPlace b p → Grows b n → HasHopNumber n p.elem → HasSpace n (Some p)
-made_space b n p i e place g h = subst (λ at. MatchOption at (HasNoKey n (key_in p.elem)) (λ j. IsSlotOf n (key_in p.elem) j × HasHopNumber n p.elem)) (sym e) (slot_stays b n (key_in p.elem) i g (MatchOption-at_some _ _ _ e place), h)
+pub made_space : (b n : Flat) (at : Option ℕ) (x : Elem) (i : ℕ) → at ≡ Some i → HasPlace b at x → Grows b n → HasHopNumber n x → HasSpaceAt n at x
+made_space b n at x i e place g h = subst (λ o. MatchOption o (HasNoKey n (key_in x)) (λ j. IsSlotOf n (key_in x) j × HasHopNumber n x)) (sym e) (slot_stays b n (key_in x) i g (MatchOption-at_some _ _ _ e place), h)
 
 pub no_slot_there : (b : Flat) (p : Plan) → p.at ≡ None → HasSpace b (Some p) → HasNoKey b (key_in p.elem)
 no_slot_there b p e h = MatchOption-at_none _ _ e h
@@ -73,6 +73,10 @@ planned_is room p e h i = same_value _ _ (ap (option_map planned_elem) (sym h) �
 
 pub none_planned : (room : Option Plan) (e : model.Elem) → room ≡ None → option_map planned_elem room ≡ Some e → ⊥
 none_planned room e h i = let x : None ≡ Some e = ap (option_map planned_elem) (sym h) ∙ i in absurd cc
+
+pub if_some : {A : Type 0} (P : A → Type 0) (o : Option A) → ((x : A) → o ≡ Some x → P x) → IfSome o P
+if_some P None h = tt
+if_some P (Some x) h = h x refl
 
 -- a step of base and maps that changes no offer
 pub apart_both : (xs new ys after : Paths) → new ≡ xs → SameOffers ys after → ShareNoKey xs ys → ShareNoKey new after

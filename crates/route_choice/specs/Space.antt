@@ -21,14 +21,17 @@ abbrev pub over_of : Option Plan → Option Elem
 over_of None = None
 over_of (Some p) = over_in p.at p.elem
 
--- the plan's place is that of its path key's slot, if it has one
-abbrev pub HasPlace : Flat → Plan → Type 0
-HasPlace b p = MatchOption p.at (HasNoKey b (key_in p.elem)) (IsSlotOf b (key_in p.elem))
+-- the place is that of the path key's slot, if it has one
+abbrev pub HasPlace : Flat → Option ℕ → Elem → Type 0
+HasPlace b at e = MatchOption at (HasNoKey b (key_in e)) (IsSlotOf b (key_in e))
 
 -- if its path key has a slot, what it offers has a hop with a number
 abbrev pub HasHopNumber : Flat → Elem → Type 0
 HasHopNumber b e = (o : PathAttrs) → attrs_in e ≡ Some o → HasHop b.hops.keys o.hop
 
+abbrev pub HasSpaceAt : Flat → Option ℕ → Elem → Type 0
+HasSpaceAt b at e = MatchOption at (HasNoKey b (key_in e)) (λ i. IsSlotOf b (key_in e) i × HasHopNumber b e)
+
 abbrev pub HasSpace : Flat → Option Plan → Type 0
 HasSpace b None = ⊤
-HasSpace b (Some p) = MatchOption p.at (HasNoKey b (key_in p.elem)) (λ i. IsSlotOf b (key_in p.elem) i × HasHopNumber b p.elem)
+HasSpace b (Some p) = HasSpaceAt b p.at p.elem

@@ -6,38 +6,32 @@ ghost use Rattle.adj_rib_in.specs.Flat.{IsFlat, ShareNoKey, Offers, SameOffers, 
 ghost use Rattle.adj_rib_in.specs.Bests.{IsBestHeld};
 ghost use Rattle.route_choice.specs.Paths.{IsIndexed, key_in, attrs_in};
 ghost use Rattle.route_choice.specs.Kept.{PathsAreKept, StaysKept, KeepsBeside};
+ghost use Rattle.fib_prefix.specs.Views.{elem_as};
 ghost use Rattle.route_choice.specs.Held.{IsChoice};
-ghost use Rattle.route_choice.specs.Space.{HasPlace, HasHopNumber, HasSpace, over_of as over, planned_elem};
+ghost use Rattle.route_choice.specs.Space.{HasPlace, HasHopNumber, HasSpace, HasSpaceAt, over_in, over_of as over};
 
 use crate::choice::Choice;
 use crate::over::{
     attrs_at, attrs_of, best_but, better_hop, carry_out, cut_attrs, key_of, make_room_for,
     put_attrs,
 };
-use crate::plan::Plan;
+use crate::plan::{Plan, Spot};
 use adj_rib_in::{Candidate, Flat, PathAttrs, PathKey, Rank};
 use fib_prefix::{Addr, Elem, Prefix, Via};
 use std::alloc::AllocError;
 use std::collections::{BTreeMap, BTreeSet};
 
-/// The plan for an elementary event, with its place.
-pub fn plan_of(flat: &Flat, elem: &Elem) -> Plan
+/// Where a path key lies in the base.
+pub fn spot_of(flat: &Flat, key: &PathKey) -> Spot
     requires { IsFlat flat.now }
-    ensures elem { result.elem ≡ elem.now }
-    ensures place { HasPlace flat.now result }
+    ensures { MatchOption result.at (HasNoKey flat.now key.now) (IsSlotOf flat.now key.now) }
 {
-    let key = key_of(elem);
     match flat.row_of(&key.prefix()) {
-        Some(row) => Plan {
-            elem: *elem,
-            at: flat.find_in(row, &key),
+        Some(row) => Spot {
+            at: flat.find_in(row, key),
             row,
         },
-        None => Plan {
-            elem: *elem,
-            at: None,
-            row: 0,
-        },
+        None => Spot { at: None, row: 0 },
     }
 }
 
@@ -112,55 +106,59 @@ fn best_beside(
     flat.best_near(near, &prefix, but, other)
 }
 
-/// The choice that a planned event would make.
+/// The choice that an elementary event at a path key would make, by where that lies.
 pub fn choice_of(
     flat: &Flat,
     paths: &BTreeMap<PathKey, Option<PathAttrs>>,
     ranks: &BTreeSet<Rank>,
-    plan: &Plan,
+    elem: &Elem,
+    key: &PathKey,
+    spot: Spot,
 ) -> Choice
     requires flat { IsFlat flat.now }
     requires apart { ShareNoKey (flat_paths flat.now) paths.now.entries }
     requires indexed { IsIndexed paths.now.entries ranks.now.keys }
-    requires space { HasSpace flat.now (Some plan.now) }
-    ensures { IsChoice (held_in (paths_over flat.now paths.now.entries)) (planned_elem plan.now) result }
+    requires key { key.now ≡ key_in elem.now }
+    requires spot { MatchOption spot.at (HasNoKey flat.now key.now) (IsSlotOf flat.now key.now) }
+    ensures { IsChoice (held_in (paths_over flat.now paths.now.entries)) (elem_as elem.now) result }
 {
-    let key = key_of(&plan.elem);
     let via = key.via();
-    let own = offered_by(flat, paths, plan.at, &key);
-    let others = best_beside(flat, paths, ranks, plan.row, &key);
+    let own = offered_by(flat, paths, spot.at, key);
+    let others = best_beside(flat, paths, ranks, spot.row, key);
     Choice {
         prefix: key.prefix(),
         before: better_hop(via, own, &others),
-        after: better_hop(via, attrs_of(&plan.elem), &others),
+        after: better_hop(via, attrs_of(elem), &others),
     }
 }
 
-/// Makes room for a plan, beside that of the plan before it. An `Err` leaves all as it was.
+/// Makes room for an elementary event, beside that of the plan before it; `at` is the place of its path key's slot, if it has one.
+/// An `Err` leaves all as it was.
 pub fn make_space(
     flat: &mut Flat,
     paths: &mut BTreeMap<PathKey, Option<PathAttrs>>,
     ranks: &mut BTreeSet<Rank>,
-    plan: &Plan,
+    elem: &Elem,
+    at: Option<usize>,
 ) -> Result<(), AllocError>
     requires flat { IsFlat flat.old }
-    requires place { HasPlace flat.old plan.now }
+    requires place { HasPlace flat.old at elem.now }
     ensures flat { IsFlat flat.new }
     ensures base { flat_paths flat.new ≡ flat_paths flat.old }
     ensures grows { Grows flat.old flat.new }
     ensures offers { SameOffers paths.old.entries paths.new.entries }
     ensures kept { OnOk result (KeepsBeside paths.old.entries ranks.old.keys paths.new.entries
-        ranks.new.keys (over (Some plan.now))) }
-    ensures space { OnOk result (HasSpace flat.new (Some plan.now)) }
+        ranks.new.keys (over_in at elem.now)) }
+    ensures space { OnOk result (HasSpaceAt flat.new at elem.now) }
     ensures err { OnErr result (StaysKept paths.old.entries ranks.old.keys paths.new.entries
         ranks.new.keys) }
 {
-    match plan.at {
+    match at {
         Some(_) => {
-            number_attrs(flat, &plan.elem)?;
+            number_attrs(flat, elem)?;
             Ok(())
         }
-        None => make_room_for(paths, ranks, &plan.elem),
+        None => make_room_for(paths, ranks, elem),
     }
 }
 

@@ -1,6 +1,6 @@
 //! The candidates: the routes among which one is chosen for each prefix.
 
-ghost use Rattle.std.specs.Prelude.{◌≡◌, [], filter, map, option_map, Some, None, IfOk, IfSome, OnOk, OnErr};
+ghost use Rattle.std.specs.Prelude.{◌≡◌, [], filter, map, option_map, Some, None, IfOk, IfNone, IfSome, OnOk, OnErr};
 ghost use Rattle.table_model.specs.Address.{same_family};
 ghost use Rattle.fib_addr.specs.Views.{addr_as, entry_as, prefix_as, route_as};
 ghost use Rattle.std.specs.List.{AllByRecursion};
@@ -15,11 +15,12 @@ ghost use Rattle.route_choice.specs.Kept.{PathsAreKept};
 ghost use Rattle.route_choice.specs.Space.{HasSpace, planned_elem, over_of as over};
 
 use crate::all::emit_candidates;
-use crate::both::{best_of, carry_one, choice_of, load_elem, make_space, plan_of, put_route};
+use crate::both::{best_of, carry_one, choice_of, load_elem, make_space, put_route, spot_of};
 use crate::choice::{Choice, Pick};
 use crate::down::cuts_of;
 use crate::entries::entries_of as all_entries;
 use crate::family_routes::FamilyRoutes;
+use crate::over::key_of;
 use crate::plan::{Plan, end_plan, replace_plan};
 use crate::routes::routes_of as all_routes;
 use adj_rib_in::{Flat, PathAttrs, PathKey, Rank};
@@ -84,16 +85,30 @@ impl Candidates {
         }
     }
 
-    /// Makes the room that an elementary event takes, and gives back that of the plan before it.
-    fn take_room(&mut self, elem: &Elem) -> Result<(), AllocError>
+    /// Makes room for an elementary event and returns the choice that it will make, as `plan` does, without a token: what is planned
+    /// stands in the room. It changes no route. The plan before it is void.
+    ///
+    /// # Errors
+    ///
+    /// Out of memory; then nothing has changed, and the plan before it still holds.
+    pub fn choose(&mut self, elem: &Elem) -> Result<Choice, AllocError>
         ensures candidates { self.new.candidates ≡ self.old.candidates }
         ensures room { OnOk result (self.new.room ≡ Some (elem_as elem.now)) }
+        ensures choice { IfOk result (IsChoice self.old.candidates (elem_as elem.now)) }
         ensures err { OnErr result (self.new ≡ self.old) }
     {
-        let plan = plan_of(&self.flat, elem);
-        make_space(&mut self.flat, &mut self.paths, &mut self.ranks, &plan)?;
-        replace_plan(&mut self.paths, &mut self.ranks, &mut self.room, plan);
-        Ok(())
+        let key = key_of(elem);
+        let spot = spot_of(&self.flat, &key);
+        let choice = choice_of(&self.flat, &self.paths, &self.ranks, elem, &key, spot);
+        make_space(
+            &mut self.flat,
+            &mut self.paths,
+            &mut self.ranks,
+            elem,
+            spot.at,
+        )?;
+        replace_plan(&mut self.paths, &mut self.ranks, &mut self.room, elem, spot);
+        Ok(choice)
     }
 
     /// Makes room for an elementary event and returns the choice that it will make. It changes no route. The plan before it is
@@ -108,14 +123,25 @@ impl Candidates {
         ensures planned { IfOk result (IsPlanned self.new) }
         ensures err { OnErr result (self.new ≡ self.old) }
     {
-        self.take_room(elem)?;
-        let Some(plan) = &self.room else {
-            unreachable!();
-        };
+        let choice = self.choose(elem)?;
         Ok(Pick {
             elem: *elem,
-            choice: choice_of(&self.flat, &self.paths, &self.ranks, plan),
+            choice,
         })
+    }
+
+    /// Carries out what is planned, if anything is. Takes no memory.
+    pub fn carry(&mut self)
+        ensures candidates { IfSome self.old.room (λ elem. self.new.candidates
+            ≡ after_elem self.old.candidates elem) }
+        ensures none { IfNone self.old.room (self.new.candidates ≡ self.old.candidates) }
+        ensures room { self.new.room ≡ None }
+    {
+        let Some(plan) = &self.room else {
+            return;
+        };
+        carry_one(&mut self.flat, &mut self.paths, &mut self.ranks, plan);
+        self.room = None;
     }
 
     /// Carries out what was planned, if nothing changed since. Takes no memory.
@@ -125,11 +151,7 @@ impl Candidates {
         ensures room { self.new.room ≡ None }
         ensures choice { IsChoice self.old.candidates (pick_elem pick) result }
     {
-        let Some(plan) = &self.room else {
-            return pick.choice;
-        };
-        carry_one(&mut self.flat, &mut self.paths, &mut self.ranks, plan);
-        self.room = None;
+        self.carry();
         pick.choice
     }
 

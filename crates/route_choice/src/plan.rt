@@ -3,7 +3,7 @@
 ghost use Rattle.std.specs.Prelude.{◌≡◌, Some, None};
 ghost use Rattle.adj_rib_in.specs.Paths.{attrs_at as offered};
 ghost use Rattle.route_choice.specs.Kept.{PathsAreKept};
-ghost use Rattle.route_choice.specs.Space.{over_of as over};
+ghost use Rattle.route_choice.specs.Space.{over_of as over, over_in};
 
 use crate::over::give_back;
 use adj_rib_in::{PathAttrs, PathKey, Rank};
@@ -19,6 +19,15 @@ pub struct Plan {
     /// The place of the slot.
     pub at: Option<usize>,
     /// The row of the prefix, which is tested before it is used.
+    pub row: usize,
+}
+
+/// Where an elementary event's path key lies in the base.
+#[derive(Clone, Copy)]
+pub struct Spot {
+    /// The place of its slot, if it has one.
+    pub at: Option<usize>,
+    /// The row of its prefix as a guess.
     pub row: usize,
 }
 
@@ -44,13 +53,16 @@ fn give_back_earlier(
     paths: &mut BTreeMap<PathKey, Option<PathAttrs>>,
     ranks: &mut BTreeSet<Rank>,
     earlier: &Option<Plan>,
-    plan: &Option<Plan>,
+    elem: &Elem,
+    spot: Spot,
 )
     ensures offers { (s : PathKey) → offered paths.new.entries s ≡ offered paths.old.entries s }
-    ensures kept { PathsAreKept paths.old.entries ranks.old.keys (over earlier.now) (over plan.now)
-        → PathsAreKept paths.new.entries ranks.new.keys None (over plan.now) }
+    ensures kept { PathsAreKept paths.old.entries ranks.old.keys (over earlier.now)
+        (over_in spot.at elem.now)
+        → PathsAreKept paths.new.entries ranks.new.keys None (over_in spot.at elem.now) }
 {
-    give_back(paths, ranks, over_of(earlier), &over_of(plan));
+    let plan = if spot.at.is_some() { None } else { Some(*elem) };
+    give_back(paths, ranks, over_of(earlier), &plan);
 }
 
 /// Puts a plan in place of an earlier one, and gives back the room that the earlier one alone holds; mostly there is none, and nothing
@@ -59,17 +71,23 @@ pub fn replace_plan(
     paths: &mut BTreeMap<PathKey, Option<PathAttrs>>,
     ranks: &mut BTreeSet<Rank>,
     room: &mut Option<Plan>,
-    plan: Plan,
+    elem: &Elem,
+    spot: Spot,
 )
     ensures offers { (s : PathKey) → offered paths.new.entries s ≡ offered paths.old.entries s }
-    ensures kept { PathsAreKept paths.old.entries ranks.old.keys (over room.old) (over (Some plan))
-        → PathsAreKept paths.new.entries ranks.new.keys None (over (Some plan)) }
-    ensures room { room.new ≡ Some plan }
+    ensures kept { PathsAreKept paths.old.entries ranks.old.keys (over room.old)
+        (over_in spot.at elem.now)
+        → PathsAreKept paths.new.entries ranks.new.keys None (over_in spot.at elem.now) }
+    ensures room { room.new ≡ Some (record { elem = elem.now; at = spot.at; row = spot.row }) }
 {
     if room.is_some() {
-        give_back_earlier(paths, ranks, room, &Some(plan));
+        give_back_earlier(paths, ranks, room, elem, spot);
     }
-    *room = Some(plan);
+    *room = Some(Plan {
+        elem: *elem,
+        at: spot.at,
+        row: spot.row,
+    });
 }
 
 /// Makes a plan void, and gives back the room that it holds.

@@ -1,31 +1,24 @@
 use Rattle.std.proofs.Common.{ap, length, subst, ◌∙◌}
 use Rattle.fib_prefix.specs.Views.{elem_as}
-use Rattle.fib_prefix.specs.declared.event.Elem as code_elem
 use Rattle.fib_engine.specs.Held.{EngineState}
 use Rattle.fib_engine.specs.Parts.{state_in}
 use Rattle.fib_engine.specs.Stands.{TakesElem, changes_of, first_of}
 use Rattle.fib_engine.proofs.parts.Parts.apply.Goals as goal
 
 pub returns-then-is_passed-clause-takes : goal.returns-then-is_passed-clause-takes
-returns-then-is_passed-clause-takes c =
-    let new = state_in c.pass.new.self in
-    subst (λ (h : EngineState). TakesElem (elem_as c.args.elem.now) h new) c.choose.ensures.seen (subst (λ (x : code_elem.Elem). TakesElem (elem_as x) (state_in c.choose.new.self) new) c.in_ok-chosen.ensures.elem c.pass.ensures.takes)
+returns-then-is_passed-clause-takes c = subst (λ (h : EngineState). TakesElem (elem_as c.args.elem.now) h (state_in c.pass.new.self)) c.choose.ensures.seen c.pass.ensures.takes
 
 pub returns-then-is_passed-clause-changes : goal.returns-then-is_passed-clause-changes
-returns-then-is_passed-clause-changes c = c.pass.ensures.changes ∙ (ap (λ (x : code_elem.Elem). changes_of (elem_as x) (state_in c.choose.new.self)) c.in_ok-chosen.ensures.elem ∙ ap (changes_of (elem_as c.args.elem.now)) c.choose.ensures.seen)
+returns-then-is_passed-clause-changes c = c.pass.ensures.changes ∙ ap (changes_of (elem_as c.args.elem.now)) c.choose.ensures.seen
 
 pub returns-then-is_passed-clause-first : goal.returns-then-is_passed-clause-first
-returns-then-is_passed-clause-first c =
-    c.pass.ensures.first ∙ (ap (λ (x : code_elem.Elem). length (first_of (elem_as x) (state_in c.choose.new.self))) c.in_ok-chosen.ensures.elem ∙ ap (λ (h : EngineState). length (first_of (elem_as c.args.elem.now) h)) c.choose.ensures.seen)
+returns-then-is_passed-clause-first c = c.pass.ensures.first ∙ ap (λ (h : EngineState). length (first_of (elem_as c.args.elem.now) h)) c.choose.ensures.seen
 
 pub returns-clause-takes : goal.returns-clause-takes
-returns-clause-takes c =
-    let new = state_in c.make.new.self in
-    subst (λ (h : EngineState). TakesElem (elem_as c.args.elem.now) h new) c.choose.ensures.seen (subst (λ (x : code_elem.Elem). TakesElem (elem_as x) (state_in c.choose.new.self) new) c.in_ok-chosen.ensures.elem c.in_ok-changes.ensures.takes)
+returns-clause-takes c = subst (λ (h : EngineState). TakesElem (elem_as c.args.elem.now) h (state_in c.make.new.self)) c.choose.ensures.seen c.in_ok-changes.ensures.takes
 
 pub returns-clause-changes : goal.returns-clause-changes
-returns-clause-changes c = c.in_ok-changes.ensures.changes ∙ (ap (λ (x : code_elem.Elem). changes_of (elem_as x) (state_in c.choose.new.self)) c.in_ok-chosen.ensures.elem ∙ ap (changes_of (elem_as c.args.elem.now)) c.choose.ensures.seen)
+returns-clause-changes c = c.in_ok-changes.ensures.changes ∙ ap (changes_of (elem_as c.args.elem.now)) c.choose.ensures.seen
 
 pub returns-clause-first : goal.returns-clause-first
-returns-clause-first c =
-    c.in_ok-changes.ensures.first ∙ (ap (λ (x : code_elem.Elem). length (first_of (elem_as x) (state_in c.choose.new.self))) c.in_ok-chosen.ensures.elem ∙ ap (λ (h : EngineState). length (first_of (elem_as c.args.elem.now) h)) c.choose.ensures.seen)
+returns-clause-first c = c.in_ok-changes.ensures.first ∙ ap (λ (h : EngineState). length (first_of (elem_as c.args.elem.now) h)) c.choose.ensures.seen

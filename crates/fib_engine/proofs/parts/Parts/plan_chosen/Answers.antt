@@ -19,17 +19,17 @@ plan_fitting-requires-clause-alike c =
     are_alike t.candidates.candidates t.hops.list _ t.tables c.requires.sound
 
 pub plan_fitting-requires-clause-needs : goal.plan_fitting-requires-clause-needs
-plan_fitting-requires-clause-needs c = c.requires.kept.needs ∙ sym (chosen_needs c.args.chosen c.args.self.now c.requires)
+plan_fitting-requires-clause-needs c = c.requires.kept.needs ∙ sym (chosen_needs c.args.elem.now c.args.chosen.now c.args.self.now c.requires)
 
 pub plan_fitting-requires-clause-fits : goal.plan_fitting-requires-clause-fits
-plan_fitting-requires-clause-fits c = ap (first_short (sizes_as c.args.self.now.limits.sizes)) (chosen_needs c.args.chosen c.args.self.now c.requires) ∙ c.requires.kept.fit
+plan_fitting-requires-clause-fits c = ap (first_short (sizes_as c.args.self.now.limits.sizes)) (chosen_needs c.args.elem.now c.args.chosen.now c.args.self.now c.requires) ∙ c.requires.kept.fit
 
 pub returns-in_err-fitting-clause-short : goal.returns-in_err-fitting-clause-short
 returns-in_err-fitting-clause-short c = λ full e.
     let t = c.args.self.now in
     let p = err_from_is_err_and c.from_residual.result c.from_residual.ensures.1 in
     let is : c.in_err-fitting.field-0.0 ≡ TrieFull full = sym p.2 ∙ err_is (sym p.1 ∙ e) in
-    ap (first_short (sizes_as t.limits.sizes)) (sym (chosen_put c.args.chosen t c.requires)) ∙ c.in_err-fitting.ensures.short full (ap Err is)
+    ap (first_short (sizes_as t.limits.sizes)) (sym (chosen_put c.args.elem.now c.args.chosen.now t c.requires)) ∙ c.in_err-fitting.ensures.short full (ap Err is)
 
 pub returns-clause-waiting : goal.returns-clause-waiting
 returns-clause-waiting c =
@@ -42,13 +42,14 @@ returns-clause-waiting c =
       kept = r.kept;
       tables = c.plan_fitting.ensures.tables;
       put = c.in_ok-fitting.ensures.put;
-      told = subst (λ (b : Bool). AreTold c.plan_fitting.new.tables t.limits.fewest c.args.chosen.route b c.in_ok-fitting.fitting.plan.v4 c.in_ok-fitting.fitting.plan.v6) c.is_due-due.ensures c.in_ok-fitting.ensures.told;
+      told = subst (λ (b : Bool). AreTold c.plan_fitting.new.tables t.limits.fewest c.args.chosen.now.route b c.in_ok-fitting.fitting.plan.v4 c.in_ok-fitting.fitting.plan.v6) c.is_due-due.ensures c.in_ok-fitting.ensures.told;
       planned = c.in_ok-fitting.ensures.planned;
       undone = c.in_ok-fitting.ensures.undone;
       changes = c.in_ok-fitting.ensures.changes;
       first = c.in_ok-fitting.ensures.first;
-      pick = r.pick;
-      elem = r.elem;
+      in_room = r.in_room;
+      choice = r.choice;
+      chooses = r.chooses;
       route = r.route;
       own = r.own;
       few = r.few;

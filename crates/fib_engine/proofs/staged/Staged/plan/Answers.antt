@@ -37,8 +37,8 @@ returns-clause-turn c = λ f.
     let e = c.in_ok-waiting.ensures.elem in
     let same = c.plan.ensures.seen ∙ ap (λ (s : Staging). s.held) c.self.view_is in
     let first = turn_of_plan w q c.in_ok-waiting.ensures.waiting f in
-    let second = subst (λ (x : Elem). with_planned (route_in f w.route) (only f (engine_routes (state_in q))) ≡ only f (routes_after x (state_in q))) e first in
-    subst (λ (h : EngineState). with_planned (route_in f w.route) (only f (engine_routes h)) ≡ only f (routes_after (elem_as c.args.elem.now) h)) same second
+    let second = subst (λ (x : Elem). with_planned (route_in f w.chosen.route) (only f (engine_routes (state_in q))) ≡ only f (routes_after x (state_in q))) e first in
+    subst (λ (h : EngineState). with_planned (route_in f w.chosen.route) (only f (engine_routes h)) ≡ only f (routes_after (elem_as c.args.elem.now) h)) same second
 
 pub returns-clause-changed : goal.returns-clause-changed
 returns-clause-changed c =

@@ -1,13 +1,19 @@
 use Rattle.std.proofs.Common.{None, sym, ap, subst, ◌∙◌}
-use Rattle.std.specs.Prelude.{option_map}
+use Rattle.std.specs.Prelude.{MatchOption, option_map}
 use Rattle.std.proofs.lemmas.Result.{err_from_is_err_and}
-use Rattle.route_choice.specs.Held.{HeldCandidates}
+use Rattle.fib_prefix.specs.Views.{elem_as}
+use Rattle.adj_rib_in.specs.declared.keys.PathKey.{PathKey}
+use Rattle.adj_rib_in.specs.Flat.{HasNoKey, IsSlotOf}
+use Rattle.route_choice.specs.Held.{HeldCandidates, IsChoice}
 use Rattle.route_choice.specs.Kept.{PathsAreKept}
 use Rattle.route_choice.specs.Space.{HasSpace, planned_elem, over_of}
 use Rattle.route_choice.proofs.Spaces.{space_stays, apart_both}
 use Rattle.adj_rib_in.proofs.Views.{unchanged}
 use Rattle.adj_rib_in.proofs.Parts.{both_same, over_same, apart_same}
-use Rattle.route_choice.proofs.candidates.Candidates.take_room.Goals as goal
+use Rattle.route_choice.proofs.candidates.Candidates.choose.Goals as goal
+
+pub make_space-requires-clause-place : goal.make_space-requires-clause-place
+make_space-requires-clause-place c = subst (λ (s : PathKey). MatchOption c.spot_of-spot.result.at (HasNoKey c.self.inside.flat s) (IsSlotOf c.self.inside.flat s)) c.key_of-key.ensures c.spot_of-spot.ensures
 
 pub invariant_of-self : goal.invariant_of-self
 invariant_of-self c = (c.make_space.ensures.flat, apart_both _ _ c.self.inside.paths.entries _ c.make_space.ensures.base c.make_space.ensures.offers c.self.invariant.1, c.in_err-make_space.ensures.err (over_of c.self.inside.room) c.self.invariant.2, space_stays c.self.inside.flat c.make_space.new.flat c.self.inside.room c.make_space.ensures.base c.make_space.ensures.grows c.self.invariant.3)
@@ -30,3 +36,6 @@ invariant_of-self-2 c = (
 
 pub returns-clause-candidates : goal.returns-clause-candidates
 returns-clause-candidates c = unchanged _ _ (over_same _ _ _ c.replace_plan.ensures.offers) ∙ (unchanged _ _ (both_same _ _ _ _ c.make_space.ensures.base c.make_space.ensures.offers) ∙ ap (λ (h : HeldCandidates). h.candidates) c.self.view_is)
+
+pub returns-clause-choice : goal.returns-clause-choice
+returns-clause-choice c = subst (λ (h : HeldCandidates). IsChoice h.candidates (elem_as c.args.elem.now) c.choice_of-choice.result) c.self.view_is c.choice_of-choice.ensures
