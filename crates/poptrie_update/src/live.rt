@@ -98,7 +98,7 @@ impl Live {
     ghost use Rattle.poptrie_set.specs.Lives.{IsTooMuchFor, AreNeedsOf};
     ghost use Rattle.poptrie_set.specs.Fits.{until};
     ghost use Rattle.poptrie_set.specs.Reading.{ReadsOn, CanRead, bits_after};
-    ghost use Rattle.poptrie_set.specs.Prepares.{AgreeOutside, MergesSlots, GaveBack, AsksRunOut};
+    ghost use Rattle.poptrie_set.specs.Prepares.{AgreeOutside, KeepsOutside, MergesSlots, GaveBack, AsksRunOut};
     ghost use Rattle.poptrie_set.specs.Lives.{ShowsIn};
     ghost use Rattle.poptrie_update.specs.Lives.{Living, Shows, present_by, HasShapeOf, is_pending, stores_left, made_of, numbered_set, Past, IsFree, KeepsStores, freed, retired_at_end, KeepsBothSets, IsSetPair};
     ghost use Rattle.poptrie_update.specs.Pendings.{IsTokenOf, selects};
@@ -291,11 +291,80 @@ impl Live {
             → Fits self.new os }
         ensures past { (ns ls : List ℕ) → Past self.old ns ls → Past self.new ns ls }
     {
-        self.give_back(oldest);
-        self.make_ready(region, prefix, oldest)
+        // it shows some table
+        self.arenas_law();
+        self.prepare_within(region, prefix, &Prefix::whole(prefix.family), oldest)
     }
 
-    /// Makes an update ready as `prepare` does, once what no lookup may be in was given back.
+    /// Makes an update ready as `prepare` does, for a new table that gives the addresses outside `within` what they get now. If it
+    /// is made beside the old one, it costs the length of the way there and what `within` covers, however few direct bits there
+    /// are.
+    ///
+    /// # Errors
+    ///
+    /// As `prepare`'s.
+    pub fn prepare_within<R: Region>(
+        &mut self,
+        region: &R,
+        prefix: &Prefix,
+        within: &Prefix,
+        oldest: Oldest,
+    ) -> Result<Pending, NotReady>
+        requires family { prefix.now.family ≡ self.old.selected.family }
+        requires bits { R.bits region.now ≡ width self.old.selected.family }
+        requires quiet { is_pending self.old ≡ false }
+        requires time { self.old.selected.time < 18446744073709551615 }
+        requires within { within.now.family ≡ self.old.selected.family }
+        requires outside { (L : Entries) × Shows self.old L L
+            × KeepsOutside (prefix_as within.now) L (R.answers region.now) }
+        ensures rest { IsAtRest self.old }
+        ensures shape { HasShapeOf self.old self.new }
+        ensures time { self.new.selected.time ≡ self.old.selected.time }
+        ensures token { IfOk result (λ p. IsTokenOf p self.new × (made_of self.new ≡ 0)) }
+        ensures quiet { OnErr result (is_pending self.new ≡ false) }
+        ensures all { oldest ≡ Oldest.Nobody → NoneRetired self.new }
+        ensures out { oldest ≡ Oldest.Nobody → (L M : Entries) → Shows self.new L M
+            → OutJust self.new L M }
+        ensures shows { OnOk result ((L M : Entries) → Shows self.old L L
+            → R.answers region.now ≡ all_answers self.old.selected.family M
+            → AgreeOutside (prefix_as prefix.now) L M → Shows self.new L M) }
+        ensures merged { IfOk result (λ p. (L M N : Entries) → Shows self.old L L
+            → R.answers region.now ≡ all_answers self.old.selected.family M
+            → MergesSlots (prefix_as prefix.now) self.old.selected.direct_bits L M N
+            → Shows self.new L (cond (selects p) M N)) }
+        ensures changes { IfOk result (λ p. (L M : Entries) → Shows self.old L L
+            → R.answers region.now ≡ all_answers self.old.selected.family M
+            → AgreeOutside (prefix_as prefix.now) L M → StoresChanges p self.new L M) }
+        ensures made { IfOk result (λ p. (L M : Entries) → Shows self.old L L
+            → R.answers region.now ≡ all_answers self.old.selected.family M
+            → AgreeOutside (prefix_as prefix.now) L M
+            → IsMade (until oldest self.old.selected.time) p self.old self.new L M) }
+        ensures refused { IfErr result (λ e. (L M : Entries) → Shows self.old L L
+            → R.answers region.now ≡ all_answers self.old.selected.family M
+            → AgreeOutside (prefix_as prefix.now) L M → IsNotReady oldest e self.old L M) }
+        ensures unpinned { OnOk result ((L M : Entries) → Shows self.old L L
+            → R.answers region.now ≡ all_answers self.old.selected.family M
+            → AgreeOutside (prefix_as prefix.now) L M → IsToWait oldest self.old L M → ⊥) }
+        ensures ready { OnOk result ((b : Living)
+            × IsGivenBack (until oldest self.old.selected.time) self.old b
+            × IsReadyAfter b self.new) }
+        ensures back { OnErr result ((b : Living)
+            × IsGivenBack (until oldest self.old.selected.time) self.old b
+            × IsAsItWas b self.new) }
+        ensures undone { OnErr result (IsUndone (until oldest self.old.selected.time) self.old
+            self.new) }
+        ensures still { OnErr result ((L M : Entries) → Shows self.old L M
+            → Shows self.new L M) }
+        ensures cells { KeepsAllReached (until oldest self.old.selected.time) self.old self.new }
+        ensures fits { (os : List Open) → IsOldest oldest os → Fits self.old os
+            → Fits self.new os }
+        ensures past { (ns ls : List ℕ) → Past self.old ns ls → Past self.new ns ls }
+    {
+        self.give_back(oldest);
+        self.make_ready(region, prefix, within, oldest)
+    }
+
+    /// Makes an update ready as `prepare_within` does, once what no lookup may be in was given back.
     ///
     /// # Errors
     ///
@@ -304,12 +373,16 @@ impl Live {
         &mut self,
         region: &R,
         prefix: &Prefix,
+        within: &Prefix,
         oldest: Oldest,
     ) -> Result<Pending, NotReady>
         requires family { prefix.now.family ≡ self.old.selected.family }
         requires bits { R.bits region.now ≡ width self.old.selected.family }
         requires quiet { is_pending self.old ≡ false }
         requires time { self.old.selected.time < 18446744073709551615 }
+        requires within { within.now.family ≡ self.old.selected.family }
+        requires outside { (L : Entries) × Shows self.old L L
+            × KeepsOutside (prefix_as within.now) L (R.answers region.now) }
         requires all { oldest ≡ Oldest.Nobody → NoneRetired self.old }
         ensures pair { IsSetPair self.new.selected self.new.other self.new.state self.new.number }
         ensures shape { HasShapeOf self.old self.new }
@@ -347,7 +420,7 @@ impl Live {
         ensures cells { KeepsAllReached 0 self.old self.new }
         ensures fits { (os : List Open) → Fits self.old os → Fits self.new os }
     {
-        match self.selected.prepare(region, prefix) {
+        match self.selected.prepare_within(region, prefix, within) {
             Ok(words) => Ok(Pending {
                 stores: Stores::Words(words),
             }),

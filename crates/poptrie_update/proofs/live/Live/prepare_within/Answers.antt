@@ -8,7 +8,7 @@ use Rattle.poptrie_update.proofs.Unpinned.{on_ok, unpinned}
 use Rattle.poptrie_update.proofs.Outside.{out_just}
 use Rattle.poptrie_set.specs.Fits.{until}
 use Rattle.poptrie_update.proofs.Unreached.{reached_both}
-use Rattle.poptrie_update.proofs.live.Live.prepare.Goals as goal
+use Rattle.poptrie_update.proofs.live.Live.prepare_within.Goals as goal
 
 pub returns-clause-made : goal.returns-clause-made
 returns-clause-made g c =
@@ -39,3 +39,6 @@ returns-clause-unpinned g c =
     unpinned c.args.oldest c.args.self.now.selected.time c.args.self.now c.make_ready.new.self L M c.give_back.new.self.selected.nodes.space c.give_back.new.self.selected.leaves.space c.give_back.ensures.given c.give_back.ensures.just p.stores
     (made_in c.args.self.now c.give_back.new.self c.give_back.ensures.shape L M (until c.args.oldest c.args.self.now.selected.time) c.make_ready.new.self p.stores c.give_back.ensures.other (made L M (c.give_back.ensures.shows L L sh) (e ∙ ap (λ (f : Family). all_answers f M) (sym c.give_back.ensures.shape.0)) agree))
     wait)
+
+pub make_ready-requires-clause-outside : goal.make_ready-requires-clause-outside
+make_ready-requires-clause-outside g c = (c.requires.outside.0, c.give_back.ensures.shows c.requires.outside.0 c.requires.outside.0 c.requires.outside.1, c.requires.outside.2)
