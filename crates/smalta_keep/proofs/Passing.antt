@@ -18,11 +18,11 @@ use Rattle.kept_model.specs.Stays.{Stays, Settled, is_wide_mark}
 use Rattle.kept_model.specs.Parts.{BothOrNeither, ArePart, HasNoHalves}
 use Rattle.kept_model.proofs.Again.{agg_same, agg_half}
 use Rattle.kept_model.proofs.Settling.{settled_half, settled_clean}
-use Rattle.kept_model.proofs.Parting.{part_none, part_here, part_join, end_no_bit, end_bare}
+use Rattle.kept_model.proofs.Parting.{part_none, part_here, part_join, end_no_bit}
 use Rattle.fib_addr.specs.Views.{prefix_as, entry_as}
 use Rattle.fib_addr.specs.declared.prefix.Prefix as code
 use Rattle.orig_tree.specs.Spots.{Spot, spot_answers}
-use Rattle.orig_tree.specs.Walk.{Walks, behind}
+use Rattle.orig_tree.specs.Walk.{behind}
 use Rattle.orig_tree.proofs.Telling as telling
 use Rattle.ortc.proofs.Alike.{half_answers}
 use Rattle.ortc.proofs.Falling.{leaf_agg}
@@ -205,9 +205,13 @@ end_last s p n e t =
     let z : s.bits ≡ zero = omega (arith, n, e) in
     subst (λ (d : ℕ). HasNoHalves d (spot_answers s) s.entries) (sym z) (end_no_bit (spot_answers s) s.entries (subst (λ (d : ℕ). IsTable d s.entries) z t))
 
-pub end_leaf : (s : Spot) (x : ℕ) → s.entries ≡ [] → ((a : List Bool) → length a ≡ s.bits → spot_answers s a ≡ x) → HasNoHalves s.bits (spot_answers s) s.entries
-end_leaf s x e u = end_bare s.bits (spot_answers s) s.entries e (λ h. (_, leaf_agg s.bits (spot_answers s) s.entries x h u))
+half_here : (b : Bool) (o : Option ℕ) → half b (here o) ≡ []
+half_here true None = refl
+half_here false None = refl
+half_here true (Some g) = refl
+half_here false (Some g) = refl
 
-pub end_none : (s : Spot) (n : Option Walks) (o : Option ℕ) → n ≡ None → (behind n).entries ≡ s.entries → IfSome o (λ h. (a : List Bool) → length a ≡ s.bits → spot_answers s a ≡ h) → is_some o ≡ true → HasNoHalves s.bits (spot_answers s) s.entries
-end_none s n None e f u z = absurd cc
-end_none s n (Some x) e f u z = end_leaf s x (sym f ∙ ap (λ w. (behind w).entries) e) u
+-- below a node that is the last of its way, with a region whose addresses all get one hop
+pub end_leaf : (s : Spot) (L : Table) (o : Option ℕ) → L ≡ s.entries → ((b : Bool) → half b L ≡ []) → IfSome o (λ h. (a : List Bool) → length a ≡ s.bits → spot_answers s a ≡ h) → is_some o ≡ true → HasNoHalves s.bits (spot_answers s) s.entries
+end_leaf s L None e n u z = absurd cc
+end_leaf s L (Some x) e n u z = λ b h. (ap (half b) (sym e) ∙ n b, ap (half b) (sym (leaf_agg s.bits (spot_answers s) s.entries x h u)) ∙ half_here b _)

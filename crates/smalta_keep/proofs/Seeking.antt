@@ -14,14 +14,11 @@ use Rattle.table_model.proofs.Same.{cut_nil}
 use Rattle.kept_model.specs.Stays.{is_wide_mark, NoneAround}
 use Rattle.orig_tree.specs.Walk.{Walks, behind}
 use Rattle.orig_tree.proofs.Paths.{no_bits, first_bit}
-use Rattle.smalta_keep.specs.Places.{IsUnmarked}
 
-pub unmarked : (M : Table) (a : Bool) → a ≡ is_wide_mark (root M) → a ≡ false → half false M ≡ [] → half true M ≡ [] → IsUnmarked M
-unmarked M a e n low high = record { wide = sym e ∙ n; below = below }
-  where
-    below : (b : Bool) → half b M ≡ []
-    below false = low
-    below true = high
+-- nothing is below the root
+pub bare : (M : Table) → half false M ≡ [] → half true M ≡ [] → (b : Bool) → half b M ≡ []
+bare M low high false = low
+bare M low high true = high
 
 pub sought_end : (left q : ℕ) (T : Table) → left ≡ 0 → T ≡ cut (bits_of left q) T
 sought_end left q T z = ap (λ p. cut p T) (sym (no_bits left q z))

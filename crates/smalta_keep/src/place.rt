@@ -114,6 +114,16 @@ fn lacks(node: &Option<NodeRef<'_>>, bit: bool) -> bool
     }
 }
 
+/// Whether no half of the node, if it is one, is a node.
+fn is_last(node: &Option<NodeRef<'_>>) -> bool
+    ensures { result ≡ true → (bit : Bool) → half bit (behind node.now).entries ≡ [] }
+{
+    if lacks(node, false) {
+        return lacks(node, true);
+    }
+    false
+}
+
 /// Whether the node, if it is one, has no wide dirty prefix, and there is no dirty prefix below it.
 fn is_unmarked(node: &Option<NodeRef<'_>>) -> bool
     ensures { result ≡ true → IsUnmarked (behind node.now).entries }
@@ -121,10 +131,7 @@ fn is_unmarked(node: &Option<NodeRef<'_>>) -> bool
     if has_wide(node) {
         return false;
     }
-    if lacks(node, false) {
-        return lacks(node, true);
-    }
-    false
+    is_last(node)
 }
 
 /// The node of a path of `left` bits below a node, if it is one, and whether a wide dirty prefix is on the way to it, or already was.
@@ -292,9 +299,9 @@ impl<'a> Place<'a> {
         if prefix.len == prefix.family.width() {
             return true;
         }
-        match self.node {
-            Some(_) => false,
-            None => self.region.leaf().is_some(),
+        if is_last(&self.node) {
+            return self.region.leaf().is_some();
         }
+        false
     }
 }
