@@ -1,13 +1,14 @@
 -- A family's live trie through an event.
 use Rattle.std.proofs.Common.{◌≡◌, ℕ, suc, ◌+◌, ◌^◌, ◌<◌, ◌≤◌, List, [], ◌∷◌, Bool, true, false, cond, Some, None, refl, sym, ap, ◌∙◌, arith, subst}
-use Rattle.table_model.specs.Address.{Address, Prefix}
+use Rattle.std.specs.Prelude.{◌&&◌}
+use Rattle.table_model.specs.Address.{Address, Prefix, same_family}
 use Rattle.table_model.specs.declared.family.Family.{Family}
 use Rattle.table_model.specs.Table.{Table, lpm}
 use Rattle.table_model.specs.Entries.{Entries}
 use Rattle.route_model.specs.Events.{Elem}
 use Rattle.kept_model.specs.Feed.{entries_of, hops_after}
 use Rattle.fib_addr.specs.Answers.{all_answers}
-use Rattle.poptrie_set.specs.Prepares.{AgreeOutside}
+use Rattle.poptrie_set.specs.Prepares.{AgreeOutside, KeepsOutside}
 use Rattle.poptrie_update.specs.Lives.{Living, Shows, HasShapeOf, is_pending, is_selecting}
 use Rattle.poptrie_update.specs.Pendings.{IsTokenBy, IsTokenOf, IsSelectorOf}
 use Rattle.poptrie_update.specs.declared.live.Other.{Other}
@@ -55,6 +56,14 @@ answers_known f E M e = sym (answers_only f E) ∙ (ap (all_answers f) e ∙ ans
 
 pub agree_outside : (p : Prefix) (L M : Entries) → AreAlikeOutside p L M → AgreeOutside p L M
 agree_outside p L M o a is fam out = sym (o a out)
+
+pub keeps_outside : (p : Prefix) (L M : Entries) (F : List Bool → ℕ) → F ≡ all_answers p.family M → AreAlikeOutside p L M → KeepsOutside p L F
+keeps_outside p L M F e o a is out =
+    ap (λ (g : List Bool → ℕ). g a) e ∙ sym (o (record { family = p.family; bits = a }) (ap (λ (b : Bool). same_family p.family p.family && b) out ∙ by (same_family p.family p.family)))
+  where
+    by : (b : Bool) → (b && false) ≡ false
+    by true = refl
+    by false = refl
 
 -- where nothing is pending, a trie shows what has the same answers
 same_shows : (f : Family) (l : Living) (L M E F : Entries) → l.selected.family ≡ f → is_pending l ≡ false → all_answers f L ≡ all_answers f E → all_answers f M ≡ all_answers f F → Shows l L M → Shows l E F

@@ -108,7 +108,7 @@ fn ready(
     ensures unprepared { OnErr result (IsUnprepared oldest live.old live.new) }
 {
     let region = RouteRegion::whole(lower.tree(prefix.family));
-    match live.prepare(&region, prefix, oldest) {
+    match live.prepare_within(&region, prefix, prefix, oldest) {
         Ok(pending) => Ok(pending),
         Err(why) => Err(hindrance(why)),
     }

@@ -1,21 +1,23 @@
 use Rattle.std.proofs.Common.{ap, arith, sym, ◌∙◌}
 use Rattle.table_model.specs.Width.{width}
+use Rattle.table_model.specs.declared.family.Family.{Family}
+use Rattle.fib_addr.specs.Answers.{all_answers}
 use Rattle.fib_addr.specs.Views.{prefix_as}
 use Rattle.fib_engine.specs.Held.{engine_routes}
 use Rattle.fib_engine.specs.Staged.{routes_planned}
-use Rattle.fib_router.proofs.Through.{agree_outside}
+use Rattle.fib_router.proofs.Through.{agree_outside, keeps_outside}
 use Rattle.fib_router.proofs.Stepping.{stores_by}
 use Rattle.fib_router.proofs.Readying.{fits_now, hindered_by, region_is}
 use Rattle.fib_router.proofs.lives.ready.Goals as goal
 
-pub prepare-requires-clause-family : goal.prepare-requires-clause-family
-prepare-requires-clause-family c = sym c.requires.rest.family
+pub prepare_within-requires-clause-family : goal.prepare_within-requires-clause-family
+prepare_within-requires-clause-family c = sym c.requires.rest.family
 
-pub prepare-requires-clause-bits : goal.prepare-requires-clause-bits
-prepare-requires-clause-bits c = c.whole-region.ensures.bits ∙ ap width (c.tree.ensures.family ∙ sym c.requires.rest.family)
+pub prepare_within-requires-clause-bits : goal.prepare_within-requires-clause-bits
+prepare_within-requires-clause-bits c = c.whole-region.ensures.bits ∙ ap width (c.tree.ensures.family ∙ sym c.requires.rest.family)
 
-pub prepare-requires-clause-time : goal.prepare-requires-clause-time
-prepare-requires-clause-time c = omega (arith, c.requires.rest.time, c.requires.few)
+pub prepare_within-requires-clause-time : goal.prepare_within-requires-clause-time
+prepare_within-requires-clause-time c = omega (arith, c.requires.rest.time, c.requires.few)
 
 pub returns-in-Ok-clause-shows : goal.returns-in-Ok-clause-shows
 returns-in-Ok-clause-shows c =
@@ -52,13 +54,13 @@ returns-in-Ok-clause-stores c =
     let L = engine_routes l.held in
     let M = routes_planned l in
     let region = region_is c.args.prefix.now.family c.tree.result.now.family c.args.live.now.selected.family c.tree.result.now.routes M _ c.whole-region.ensures.answers c.tree.ensures.family c.tree.ensures.routes c.requires.rest.family in
-    stores_by c.in-Ok.pending.stores c.prepare.new.self L M c.in-Ok.ensures.token.0 (c.in-Ok.ensures.changes L M c.requires.rest.shows region (agree_outside (prefix_as c.args.prefix.now) L M c.requires.within))
+    stores_by c.in-Ok.pending.stores c.prepare_within.new.self L M c.in-Ok.ensures.token.0 (c.in-Ok.ensures.changes L M c.requires.rest.shows region (agree_outside (prefix_as c.args.prefix.now) L M c.requires.within))
 
 pub returns-in-Ok-clause-readies : goal.returns-in-Ok-clause-readies
-returns-in-Ok-clause-readies c = record { shape = c.prepare.ensures.shape; time = c.prepare.ensures.time; fits = c.prepare.ensures.fits; past = c.prepare.ensures.past }
+returns-in-Ok-clause-readies c = record { shape = c.prepare_within.ensures.shape; time = c.prepare_within.ensures.time; fits = c.prepare_within.ensures.fits; past = c.prepare_within.ensures.past }
 
 pub returns-in-Err-clause-readies : goal.returns-in-Err-clause-readies
-returns-in-Err-clause-readies c = record { shape = c.prepare.ensures.shape; time = c.prepare.ensures.time; fits = c.prepare.ensures.fits; past = c.prepare.ensures.past }
+returns-in-Err-clause-readies c = record { shape = c.prepare_within.ensures.shape; time = c.prepare_within.ensures.time; fits = c.prepare_within.ensures.fits; past = c.prepare_within.ensures.past }
 
 pub returns-in-Ok-clause-prepared : goal.returns-in-Ok-clause-prepared
 returns-in-Ok-clause-prepared c =
@@ -71,9 +73,20 @@ returns-in-Ok-clause-prepared c =
       made = c.in-Ok.ensures.made L M c.requires.rest.shows region outside;
       unpinned = c.in-Ok.ensures.unpinned L M c.requires.rest.shows region outside;
       ready = c.in-Ok.ensures.ready;
-      cells = c.prepare.ensures.cells;
-      alone = λ e. (c.prepare.ensures.all e, c.prepare.ensures.out e L M (c.in-Ok.ensures.shows L M c.requires.rest.shows region outside));
+      cells = c.prepare_within.ensures.cells;
+      alone = λ e. (c.prepare_within.ensures.all e, c.prepare_within.ensures.out e L M (c.in-Ok.ensures.shows L M c.requires.rest.shows region outside));
     }
 
 pub returns-in-Err-clause-unprepared : goal.returns-in-Err-clause-unprepared
-returns-in-Err-clause-unprepared c = record { back = c.in-Err.ensures.back; cells = c.prepare.ensures.cells; alone = c.prepare.ensures.all }
+returns-in-Err-clause-unprepared c = record { back = c.in-Err.ensures.back; cells = c.prepare_within.ensures.cells; alone = c.prepare_within.ensures.all }
+
+pub prepare_within-requires-clause-within : goal.prepare_within-requires-clause-within
+prepare_within-requires-clause-within c = sym c.requires.rest.family
+
+pub prepare_within-requires-clause-outside : goal.prepare_within-requires-clause-outside
+prepare_within-requires-clause-outside c =
+    let l = c.args.lower.now in
+    let L = engine_routes l.held in
+    let M = routes_planned l in
+    let region = region_is c.args.prefix.now.family c.tree.result.now.family c.args.live.now.selected.family c.tree.result.now.routes M _ c.whole-region.ensures.answers c.tree.ensures.family c.tree.ensures.routes c.requires.rest.family in
+    (L, c.requires.rest.shows, keeps_outside (prefix_as c.args.prefix.now) L M _ (region ∙ ap (λ (f : Family). all_answers f M) c.requires.rest.family) c.requires.within)
