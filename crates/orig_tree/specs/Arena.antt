@@ -43,9 +43,9 @@ half_place n false = link n.low
 half_place n true = link n.high
 
 -- the own route of the node at a place, if one is given
-abbrev pub route_in : List Node → Option ℕ → Option ℕ
-route_in cells None = None
-route_in cells (Some j) = (cell_at cells j).route.hop
+abbrev pub own_route_at : List Node → Option ℕ → Option ℕ
+own_route_at cells None = None
+own_route_at cells (Some j) = (cell_at cells j).route.hop
 
 abbrev pub from_half : (ℕ → Walks) → Option ℕ → Walks
 from_half f None = no_walks
@@ -103,9 +103,9 @@ retold Route hop low high n = record { low = n.low; high = n.high; route = cover
 retold Entry hop low high n = record { low = n.low; high = n.high; route = n.route; entry = cover_slot hop (covered hop low high) }
 
 -- one label of a node, with its cover
-abbrev pub slot_of : Label → Node → Slot
-slot_of Route n = n.route
-slot_of Entry n = n.entry
+abbrev pub labelled_slot : Label → Node → Slot
+labelled_slot Route n = n.route
+labelled_slot Entry n = n.entry
 
 -- a node with this for one label
 abbrev pub with_slot : Label → Slot → Node → Node
@@ -125,8 +125,8 @@ abbrev pub slot_over : Label → Option ℕ → List Node → ℕ → ℕ → Sl
 slot_over label hop cells low high = cover_slot hop (covered hop (cover_at cells label (link low)) (cover_at cells label (link high)))
 
 -- the node with that label
-abbrev pub told_as : Label → Option ℕ → List Node → Node → Node
-told_as label hop cells n = retold label hop (cover_at cells label (half_place n false)) (cover_at cells label (half_place n true)) n
+abbrev pub relabelled : Label → Option ℕ → List Node → Node → Node
+relabelled label hop cells n = retold label hop (cover_at cells label (half_place n false)) (cover_at cells label (half_place n true)) n
 
 -- the array after a label's hop is set at a path, or taken away
 pub record IsSet (d : ℕ) (label : Label) (q : List Bool) (hop : Option ℕ) (old new : List Node) (name : ℕ → Owner) (i : ℕ) (p : List Bool) : Type 0 where

@@ -1,7 +1,7 @@
 -- A label that is set at a path, with nodes made down to it.
 use Rattle.std.specs.Prelude.{◌≡◌, ℕ, List, Bool, true, false, Option, Some, None, slice_set}
 use Rattle.orig_tree.specs.Walk.{labelled}
-use Rattle.orig_tree.specs.Arena.{Owner, cell_at, IsTree, IsSet, MakesRoom, HalvesStay, cover_of, told_as}
+use Rattle.orig_tree.specs.Arena.{Owner, cell_at, IsTree, IsSet, MakesRoom, HalvesStay, cover_of, relabelled}
 use Rattle.orig_tree.specs.Bests.{AreBest, IsGrown}
 use Rattle.orig_tree.specs.declared.node.Node.{Node}
 use Rattle.orig_tree.specs.declared.node.Label.{Label}
@@ -15,7 +15,7 @@ route_set Entry h = None
 
 -- a node with its own labels, its cover computed from those of the halves
 abbrev pub told_again : Label → List Node → Node → Node
-told_again label cells n = told_as label (labelled label n.route.hop n.entry.hop) cells n
+told_again label cells n = relabelled label (labelled label n.route.hop n.entry.hop) cells n
 
 -- the node at place i computes its cover again, if that of a half has changed; more: whether its own has changed
 abbrev pub Climbs : Label → Bool → Bool → List Node → List Node → ℕ → Type 0

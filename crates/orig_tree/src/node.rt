@@ -12,7 +12,7 @@ ghost use Rattle.orig_tree.specs.Walk.{rows_of, edited, CanEdit, labelled, has_n
 ghost use Rattle.table_model.specs.Entries.{of_table};
 ghost use Rattle.orig_tree.specs.Views.{path_steps, FitsWidth};
 ghost use Rattle.orig_tree.specs.Uniform.{IsUniform};
-ghost use Rattle.orig_tree.specs.Arena.{cells_of, Owner, blank_cell, cell_at, half_place, walks_at, IsTree, IsSet, slot_of, slot_over, with_slot, told_as, cover_at, cover_of, from_half, HasSpares, link, GivesPlace, IsSplit, MakesRoom, HalvesStay, with_half};
+ghost use Rattle.orig_tree.specs.Arena.{cells_of, Owner, blank_cell, cell_at, half_place, walks_at, IsTree, IsSet, labelled_slot, slot_over, with_slot, relabelled, cover_at, cover_of, from_half, HasSpares, link, GivesPlace, IsSplit, MakesRoom, HalvesStay, with_half};
 ghost use Rattle.orig_tree.specs.Bests.{best_in, bests_of, best_one, blank_place, put_at, AreBest, IsGrown, laid};
 ghost use Rattle.orig_tree.specs.Steps.{new_nodes};
 ghost use Rattle.orig_tree.specs.Placed.{Climbs, IsPlaced, route_set};
@@ -86,7 +86,7 @@ impl Node {
 
     /// One of its labels, with the cover beside it.
     fn slot(self, label: Label) -> Slot
-        ensures { result ≡ slot_of label self }
+        ensures { result ≡ labelled_slot label self }
     {
         match label {
             Label::Route => self.route,
@@ -312,7 +312,7 @@ fn told(nodes: &Nodes, low: u32, high: u32, label: Label, hop: Option<u16>) -> S
 
 /// A node with one of its labels set, and its cover computed from those of the halves.
 pub(crate) fn retell(nodes: &Nodes, node: Node, label: Label, hop: Option<u16>) -> Node
-    ensures { result ≡ told_as label hop (cells_of nodes.now) node }
+    ensures { result ≡ relabelled label hop (cells_of nodes.now) node }
 {
     let slot = told(nodes, node.low, node.high, label, hop);
     match label {
@@ -329,9 +329,9 @@ pub(crate) fn retell(nodes: &Nodes, node: Node, label: Label, hop: Option<u16>) 
 
 /// Sets one of a node's labels, with its cover computed from those of the halves, and returns whether that is another than it was.
 pub(crate) fn update_node(nodes: &mut Nodes, i: usize, label: Label, hop: Option<u16>) -> bool
-    ensures cells { cells_of nodes.new ≡ slice_set (cells_of nodes.old) i (told_as label hop
+    ensures cells { cells_of nodes.new ≡ slice_set (cells_of nodes.old) i (relabelled label hop
         (cells_of nodes.old) (cell_at (cells_of nodes.old) i)) }
-    ensures same { result ≡ false → cover_of label (told_as label hop (cells_of nodes.old)
+    ensures same { result ≡ false → cover_of label (relabelled label hop (cells_of nodes.old)
         (cell_at (cells_of nodes.old) i)) ≡ cover_of label (cell_at (cells_of nodes.old) i) }
     ensures kept { bests_of nodes.new ≡ bests_of nodes.old }
     ensures free { nodes.new.free ≡ nodes.old.free }

@@ -6,7 +6,7 @@ ghost use Rattle.table_model.specs.Table.{cut};
 ghost use Rattle.table_model.specs.Entries.{of_table};
 ghost use Rattle.table_model.specs.Regions.{entry_at, lift};
 ghost use Rattle.fib_addr.specs.Views.{prefix_as};
-ghost use Rattle.orig_tree.specs.Arena.{cells_of, walks_at, route_in};
+ghost use Rattle.orig_tree.specs.Arena.{cells_of, walks_at, own_route_at};
 ghost use Rattle.std.specs.Option.{is_some};
 ghost use Rattle.orig_tree.specs.Views.{path_steps, FitsWidth};
 ghost use Rattle.orig_tree.specs.Walk.{has_node};
@@ -46,7 +46,7 @@ fn find(nodes: &Nodes, i: usize, path: Path) -> Option<usize>
     requires { path.left ≤ 128 }
     ensures node { (d : ℕ) → path.left < d → is_some result
         ≡ has_node (path_steps path) (walks_at d (cells_of nodes.now) i).nodes }
-    ensures route { (d : ℕ) → path.left < d → route_in (cells_of nodes.now) result
+    ensures route { (d : ℕ) → path.left < d → own_route_at (cells_of nodes.now) result
         ≡ entry_at (path_steps path) (walks_at d (cells_of nodes.now) i).routes }
 {
     if path.left == 0 {
