@@ -19,6 +19,7 @@ use Rattle.table_model.specs.declared.family.Family.{Family}
 use Rattle.table_model.proofs.BitLaws.{length-bits_of}
 use Rattle.table_model.proofs.SamePrefix.{same_family_is, same_family_itself}
 use Rattle.table_model.specs.Entries.{Entries, of_table, with_entry}
+use Rattle.table_model.specs.Regions.{lift}
 use Rattle.fib_addr.specs.Views.{prefix_as, entry_as}
 use Rattle.fib_addr.specs.declared.entry.Entry as code_entry
 use Rattle.fib_addr.specs.declared.prefix.Prefix as code
@@ -125,6 +126,14 @@ all_prefixes (e ∷ es) = (omega (arith, length_prefix (width e.prefix.family) e
 front_prefixes : (E D : Entries) → AllByRecursion IsPrefix (keys_of (E ++ D)) → AllByRecursion IsPrefix (keys_of E)
 front_prefixes [] D a = tt
 front_prefixes (e ∷ E) D a = (a.0, front_prefixes E D a.1)
+
+after_prefixes : (E D : Entries) → AllByRecursion IsPrefix (keys_of (E ++ D)) → AllByRecursion IsPrefix (keys_of D)
+after_prefixes [] D a = a
+after_prefixes (e ∷ E) D a = after_prefixes E D a.1
+
+-- what is left of prefixes after a walk are prefixes
+pub left_prefixes : (label : Label) (h levels : ℕ) (p : Prefix) (old new : List Node) (free free' : ℕ) (S S' : ℕ → Best) (i : ℕ) (E R : Entries) → Merges label h levels p old new free free' S S' i E R → AllByRecursion IsPrefix (keys_of E) → AllByRecursion IsPrefix (keys_of R)
+left_prefixes label h levels p old new free free' S S' i E R w a = after_prefixes (of_table p.family (lift p.bits w.taken)) R (subst (λ (F : Entries). AllByRecursion IsPrefix (keys_of F)) w.front a)
 
 -- entries of a family's table that are set in it, each in its turn
 rows_set : (f : Family) (T R : Table) → FitsWidth (width f) T → InPlace (of_table f R) → InPlace (of_table f (with_rows T R)) × (of_table f (with_rows T R) ≡ fold with_entry (of_table f R) (of_table f T))

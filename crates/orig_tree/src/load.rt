@@ -75,30 +75,30 @@ fn insert_one(
     Ok(())
 }
 
-/// Sets a label of those of the entries that are of the family, each in its turn. A walk from the root goes on as long as the
-/// next entry is in the order of prefixes, so it is one walk for a list in that order; the first of each is set by itself, so
-/// that each takes one at least.
+/// Sets a label of those of the entries that a source gives that are of the family, each in its turn. A walk from the root goes on
+/// as long as the next entry is in the order of prefixes, so it is one walk if they come in that order; the first of each is set by
+/// itself, so that each takes one at least.
 ///
 /// # Errors
 ///
 /// Out of memory, also if there would be 2^31 nodes or more; then the first n entries may be set, for some n.
-pub(crate) fn insert_all(
+pub(crate) fn insert_all<S: EntrySource>(
     family: Family,
     nodes: &mut Nodes,
     label: Label,
-    entries: &[Entry],
+    entries: &mut S,
 ) -> Result<(), AllocError>
     requires arena { IsArena family (cells_of nodes.old) nodes.old.free }
     requires order { InPlace (of_table family (rows_of label (whole family (cells_of nodes.old)))) }
+    requires prefixes { AllByRecursion IsPrefix (keys_of (S.left entries.old)) }
     ensures { OnOk result (Lays family label (cells_of nodes.old) (cells_of nodes.new)
-        nodes.new.free (best_in nodes.old) (best_in nodes.new) (map entry_as entries.now) []) }
+        nodes.new.free (best_in nodes.old) (best_in nodes.new) (S.left entries.old) []) }
 {
     let root = Prefix::whole(family);
-    let mut left = entries;
-    while let [first, rest @ ..] = left {
-        insert_one(family, nodes, label, first)?;
-        left = rest;
-        merge(nodes, 0, &root, 0, label, &mut left)?;
+    while let Some(first) = entries.first() {
+        insert_one(family, nodes, label, &first)?;
+        entries.pass();
+        merge(nodes, 0, &root, 0, label, entries)?;
     }
     Ok(())
 }

@@ -1,9 +1,9 @@
 //! Many entries set in one walk: as long as the next one is within the region at hand, the walk goes on from there.
 
-ghost use Rattle.std.specs.Prelude.{◌≡◌, ◌≤◌, ◌<◌, ◌-◌, ℕ, List, Bool, true, IfOk, OnOk, IfSome, IfNone, false, map, vec_len};
+ghost use Rattle.std.specs.Prelude.{◌≡◌, ◌≤◌, ◌<◌, ◌-◌, ℕ, List, Bool, true, IfOk, OnOk, IfSome, IfNone, false, vec_len};
 ghost use Rattle.table_model.specs.Halves.{half_at};
 ghost use Rattle.table_model.specs.Width.{width};
-ghost use Rattle.fib_addr.specs.Views.{entry_as, prefix_as};
+ghost use Rattle.fib_addr.specs.Views.{prefix_as};
 ghost use Rattle.orig_tree.specs.Arena.{cells_of, Owner, IsTree, HasSpares};
 ghost use Rattle.orig_tree.specs.Bests.{best_in};
 ghost use Rattle.orig_tree.specs.Merged.{starts_within, IsHalfMade, Merges};
@@ -11,7 +11,7 @@ ghost use Rattle.orig_tree.specs.Merged.{starts_within, IsHalfMade, Merges};
 use crate::best::Best;
 use crate::node::{Label, Nodes, climb, read, reserve, split, update_node};
 use crate::source::EntrySource;
-use fib_addr::{Entry, Prefix, bit_at};
+use fib_addr::{Prefix, bit_at};
 use std::alloc::AllocError;
 
 /// The half of the prefix that the first entry's prefix is within, if it is in one.
@@ -35,16 +35,22 @@ pub(crate) fn next_half<S: EntrySource>(entries: &S, at: &Prefix) -> Option<bool
 }
 
 /// Sets a label of a node, which stands for the prefix, if the first entry is at that prefix, and takes that entry.
-fn merge_own(nodes: &mut Nodes, i: usize, at: &Prefix, label: Label, entries: &mut &[Entry])
+fn merge_own<S: EntrySource>(
+    nodes: &mut Nodes,
+    i: usize,
+    at: &Prefix,
+    label: Label,
+    entries: &mut S,
+)
     ensures len { vec_len nodes.new.halves ≡ vec_len nodes.old.halves }
     ensures merged { (h levels : ℕ) → Merges label h levels (prefix_as at.now) (cells_of nodes.old)
         (cells_of nodes.new) nodes.old.free nodes.new.free (best_in nodes.old) (best_in nodes.new) i
-        (map entry_as entries.old.now) (map entry_as entries.new.now) }
+        (S.left entries.old) (S.left entries.new) }
 {
-    match *entries {
-        [first, rest @ ..] if first.prefix.len == at.len && first.prefix == *at => {
+    match entries.first() {
+        Some(first) if first.prefix.len == at.len && first.prefix == *at => {
             update_node(nodes, i, label, Some(first.hop.0));
-            *entries = rest;
+            entries.pass();
         }
         _ => {}
     }
@@ -74,18 +80,17 @@ fn open_half(nodes: &mut Nodes, i: usize, bit: bool, inherited: u16) -> Result<u
 ///
 /// Out of memory, also if there would be 2^31 nodes or more; then the first n entries may be set, for some n.
 #[cycle(merge)]
-pub(crate) fn merge(
+pub(crate) fn merge<S: EntrySource>(
     nodes: &mut Nodes,
     i: usize,
     at: &Prefix,
     inherited: u16,
     label: Label,
-    entries: &mut &[Entry],
+    entries: &mut S,
 ) -> Result<(), AllocError>
     ensures { OnOk result (Merges label inherited (width at.now.family - at.now.len) (prefix_as
         at.now) (cells_of nodes.old) (cells_of nodes.new) nodes.old.free nodes.new.free (best_in
-        nodes.old) (best_in nodes.new) i (map entry_as entries.old.now) (map entry_as
-        entries.new.now)) }
+        nodes.old) (best_in nodes.new) i (S.left entries.old) (S.left entries.new)) }
 {
     merge_own(nodes, i, at, label, entries);
     if at.len == at.family.width() {
@@ -110,20 +115,19 @@ pub(crate) fn merge(
 
 /// The same of a half of the node, which is made a node if it is none.
 #[cycle(merge)]
-fn merge_half(
+fn merge_half<S: EntrySource>(
     nodes: &mut Nodes,
     i: usize,
     bit: bool,
     at: &Prefix,
     inherited: u16,
     label: Label,
-    entries: &mut &[Entry],
+    entries: &mut S,
 ) -> Result<(), AllocError>
     requires { at.now.len < width at.now.family }
     ensures { OnOk result (Merges label inherited (width at.now.family - at.now.len) (prefix_as
         at.now) (cells_of nodes.old) (cells_of nodes.new) nodes.old.free nodes.new.free (best_in
-        nodes.old) (best_in nodes.new) i (map entry_as entries.old.now) (map entry_as
-        entries.new.now)) }
+        nodes.old) (best_in nodes.new) i (S.left entries.old) (S.left entries.new)) }
 {
     let half = at.half(bit);
     let j = open_half(nodes, i, bit, inherited)?;

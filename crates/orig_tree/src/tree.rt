@@ -184,6 +184,25 @@ impl Tree {
             e.0.family) (map entry_as entries.now))) }
         ensures before { IfOk result (λ t. t.before ≡ t.routes) }
     {
+        let mut left = entries;
+        self.insert_entries_from(&mut left)
+    }
+
+    /// A tree without entries is given those of the entries of a source that are of its family, as `insert_entries` gives it those of
+    /// a list: none is made.
+    ///
+    /// # Errors
+    ///
+    /// Out of memory, also if there would be 2^31 nodes or more.
+    pub fn insert_entries_from<S: EntrySource>(self, entries: &mut S) -> Result<Tree, AllocError>
+        requires empty { self.entries ≡ [] }
+        requires prefixes { AllByRecursion IsPrefix (keys_of (S.left entries.old)) }
+        ensures family { IfOk result (λ t. t.family ≡ self.family) }
+        ensures routes { IfOk result (λ t. t.routes ≡ self.routes) }
+        ensures entries { IfOk result (λ t. t.entries ≡ in_order (filter (λ e. same_family self.family
+            e.0.family) (S.left entries.old))) }
+        ensures before { IfOk result (λ t. t.before ≡ t.routes) }
+    {
         let mut nodes = self.nodes;
         insert_all(self.family, &mut nodes, Label::Entry, entries)?;
         Ok(Tree {

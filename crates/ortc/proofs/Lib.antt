@@ -1,4 +1,5 @@
 pub mod Alike
 pub mod Falling
+pub mod Packing
 pub mod Proving
 pub mod Visiting

@@ -22,6 +22,7 @@ ghost use Rattle.orig_tree.specs.Within.{nodes_in};
 ghost use Rattle.ortc.specs.Proved.{ProveLeast};
 ghost use Rattle.ortc.specs.Tables.{IsAggregateOf};
 
+use crate::packed_table::PackedTable;
 use crate::rows::certify;
 use crate::table::Fresh;
 use fib_addr::{Entry, EntrySink, Hop, Prefix, emit_entry};
@@ -189,6 +190,19 @@ pub fn least_table(alloc: Global, tree: &Tree) -> Result<Vec<Entry>, AllocError>
         (map entry_as v.items))) }
 {
     let mut table = Vec::new(alloc);
+    emit_least(tree, &mut table)?;
+    Ok(table)
+}
+
+/// The least table with the answers of the tree's routes, as `least_table` makes it, in half its memory.
+///
+/// # Errors
+///
+/// Out of memory.
+pub fn least_packed(alloc: Global, tree: &Tree) -> Result<PackedTable, AllocError>
+    ensures { IfOk result (λ t. t ≡ aggregate_in tree.now.family tree.now.routes tree.now.entries) }
+{
+    let mut table = PackedTable::new(alloc);
     emit_least(tree, &mut table)?;
     Ok(table)
 }

@@ -5,9 +5,12 @@
 #![tactic(auto)]
 
 mod down;
+mod packed;
+mod packed_table;
 mod rows;
 mod table;
 
-pub use down::{emit_least, fresh, least_table, own_hop, within, within_counted};
+pub use down::{emit_least, fresh, least_packed, least_table, own_hop, within, within_counted};
+pub use packed_table::{PackedEntries, PackedTable};
 pub use rows::certify;
 pub use table::Fresh;

@@ -1,14 +1,17 @@
-use Rattle.std.proofs.Common.{map, length}
-use Rattle.fib_addr.specs.Views.{entry_as}
+use Rattle.std.specs.List.{AllByRecursion}
+use Rattle.std.specs.Map.{keys_of}
+use Rattle.std.proofs.Common.{length}
+use Rattle.table_model.specs.Address.{IsPrefix}
 use Rattle.orig_tree.specs.Arena.{cells_of}
 use Rattle.orig_tree.specs.Bests.{best_in}
 use Rattle.orig_tree.specs.Merged.{Lays}
 use Rattle.orig_tree.proofs.load.insert_all.Given as goal
 
-abbrev pub invariant-loop-left : goal.invariant-loop-left
-invariant-loop-left l = record {
-  lays : Lays l.family l.label (cells_of l.fn.nodes) (cells_of l.nodes) l.nodes.free (best_in l.fn.nodes) (best_in l.nodes) (map entry_as l.entries) (map entry_as l.left);
+abbrev pub invariant-loop-first : goal.invariant-loop-first
+invariant-loop-first g l = record {
+  lays : Lays l.family l.label (cells_of l.fn.nodes) (cells_of l.nodes) l.nodes.free (best_in l.fn.nodes) (best_in l.nodes) (g.S.EntrySource.left l.fn.entries) (g.S.EntrySource.left l.entries);
+  prefixes : AllByRecursion IsPrefix (keys_of (g.S.EntrySource.left l.entries));
 }
 
-abbrev pub decreases-loop-left : goal.decreases-loop-left
-decreases-loop-left l = length l.left
+abbrev pub decreases-loop-first : goal.decreases-loop-first
+decreases-loop-first g l = length (g.S.EntrySource.left l.entries)
