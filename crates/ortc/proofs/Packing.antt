@@ -1,7 +1,6 @@
 -- Entries that are packed.
-use Rattle.std.proofs.Common.{◌≡◌, ℕ, ◌+◌, ◌*◌, ◌/◌, ◌%◌, ◌^◌, ◌<◌, ◌≤◌, List, [], ◌∷◌, ◌++◌, take, map, length, ap, sym, ◌∙◌, arith}
+use Rattle.std.proofs.Common.{◌≡◌, ℕ, zero, suc, ◌+◌, ◌*◌, ◌/◌, ◌%◌, ◌^◌, ◌<◌, ◌≤◌, List, [], ◌∷◌, ◌++◌, take, map, length, ap, sym, ◌∙◌, arith}
 use Rattle.std.proofs.lemmas.Nat.{div-add-mod'}
-use Rattle.std.proofs.lemmas.List.{map_push}
 use Rattle.std.specs.Prelude.{get_or}
 use Rattle.std.specs.List.{AllByRecursion}
 use Rattle.std.specs.Map.{keys_of}
@@ -23,5 +22,5 @@ packed_prefixes (e ∷ es) = (omega (arith, length_prefix (width e.family) e.len
 -- one item more
 pub take_next : {A B : Type 0} (view : A → B) (xs : List A) (i : ℕ) (x : A) → i < length xs → x ≡ get_or xs i x → map view (take (i + 1) xs) ≡ map view (take i xs) ++ view x ∷ []
 take_next view [] i x h e = absurd (omega arith)
-take_next view (y ∷ xs) 0 x h e = ap (λ a. view a ∷ []) (sym e)
+take_next view (y ∷ xs) zero x h e = ap (λ a. view a ∷ []) (sym e)
 take_next view (y ∷ xs) (suc i) x h e = let g : suc i + 1 ≡ suc (i + 1) = omega arith in ap (λ j. map view (take j (y ∷ xs))) g ∙ ap (λ ys. view y ∷ ys) (take_next view xs i x (omega arith) e)

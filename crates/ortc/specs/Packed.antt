@@ -1,5 +1,5 @@
 -- What a clause sees of packed entries.
-use Rattle.std.specs.Prelude.{ℕ, ◌+◌, ◌*◌, ◌^◌, ◌×◌, take}
+use Rattle.std.specs.Prelude.{ℕ, ◌+◌, ◌*◌, ◌^◌, take}
 use Rattle.table_model.specs.Bits.{bits_of}
 use Rattle.table_model.specs.Width.{width}
 use Rattle.table_model.specs.Address.{Prefix}
