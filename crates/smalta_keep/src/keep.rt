@@ -31,7 +31,7 @@ use cert_model::RowSink;
 use fib_addr::{Entry, EntrySink, Family, Hop, Prefix};
 use fib_delta::Change;
 use orig_tree::{EntrySource, Tree};
-use ortc::{Fresh, certify, emit_least, fresh, least_table};
+use ortc::{Fresh, PackedTable, certify, emit_least, fresh, least_packed, least_table};
 use std::alloc::{AllocError, Global};
 use std::marker::Model;
 
@@ -148,9 +148,29 @@ impl Keep {
         ensures least { IfOk result (λ r. IsLeast r.0) }
         ensures entries { IfOk result (λ r. map entry_as r.1.items ≡ r.0.entries) }
     {
+        let (keep, packed) = self.filled_packed()?;
+        let mut entries = Vec::new(keep.alloc);
+        packed.emit(&mut entries)?;
+        Ok((keep, entries))
+    }
+
+    /// The same, with the entries in half the memory.
+    ///
+    /// # Errors
+    ///
+    /// Out of memory.
+    pub fn filled_packed(self) -> Result<(Keep, PackedTable), AllocError>
+        requires { self.entries ≡ [] }
+        ensures family { IfOk result (λ r. r.0.family ≡ self.family) }
+        ensures routes { IfOk result (λ r. r.0.routes ≡ self.routes) }
+        ensures table { IfOk result (λ r. r.0.entries ≡ aggregate_in self.family self.routes []) }
+        ensures least { IfOk result (λ r. IsLeast r.0) }
+        ensures entries { IfOk result (λ r. r.1 ≡ r.0.entries) }
+    {
         let family = self.tree.family();
-        let least = least_table(self.alloc, &self.tree)?;
-        let tree = self.tree.insert_entries(&least)?;
+        let least = least_packed(self.alloc, &self.tree)?;
+        let mut left = least.source();
+        let tree = self.tree.insert_entries_from(&mut left)?;
         let mut dirty = self.dirty;
         dirty.leave(self.alloc, family, true, false, None);
         let keep = Keep {
