@@ -58,7 +58,7 @@ use Rattle.smalta_keep.proofs.Tables.{renewed_placed, renewed_family}
 use Rattle.route_tries.specs.Sizes.{Sizes, shortage}
 use Rattle.route_tries.specs.declared.needs.FamilyNeeds.{FamilyNeeds}
 use Rattle.fib_engine.specs.FinalFib.{AreSettled}
-use Rattle.fib_engine.specs.Tables.{Both, Route, AreAlike, AreBoth, AreOfRoutes, AreTold, ArePut, KeepRoutes, KeepTables, MadeBy, both_firsts, both_routes, gathered, only, route_in, table_of as both_tables}
+use Rattle.fib_engine.specs.Tables.{Both, Route, AreAlike, AreBoth, AreFilledOf, AreOfRoutes, AreTold, ArePut, KeepRoutes, KeepTables, MadeBy, both_firsts, both_routes, gathered, only, route_in, table_of as both_tables}
 use Rattle.fib_engine.specs.Held.{AreKeptNeeds, EngineState, IsKept, IsSound, if_loaded, engine_routes}
 use Rattle.fib_engine.specs.Numbers.{IsNewNumber, IsRouteOf, HasNumber, number_or_none}
 use Rattle.fib_engine.specs.Stands.{IsLoading, EngineStands, TakesElem, first_of, routes_after}
@@ -169,8 +169,18 @@ kept_fresh f E T R k s r o e = record {
   empty = λ t. absurd cc;
 }
 
--- the tables of the routes before their first snapshot, and after it
-module _ (C : Candidates) (H : List Address) (b t n : Both) (s : IsSound C H false b) (a : AreOfRoutes (entries_of H C) t) (k : KeepRoutes t n) (v4 : n.v4.entries ≡ aggregate_in V4 t.v4.routes []) (v6 : n.v6.entries ≡ aggregate_in V6 t.v6.routes []) where
+-- the tables of the routes, filled
+pub filled_of : (E : Entries) (t n : Both) → AreOfRoutes E t → KeepRoutes t n → n.v4.entries ≡ aggregate_in V4 t.v4.routes [] → n.v6.entries ≡ aggregate_in V6 t.v6.routes [] → AreFilledOf E n
+filled_of E t n a k v4 v6 = record {
+  families = (k.v4_family ∙ a.families.0, k.v6_family ∙ a.families.1);
+  v4 = k.v4 ∙ a.v4;
+  v6 = k.v6 ∙ a.v6;
+  v4_least = v4 ∙ ap (λ (R : Entries). aggregate_in V4 R []) a.v4;
+  v6_least = v6 ∙ ap (λ (R : Entries). aggregate_in V6 R []) a.v6;
+}
+
+-- the kept tables from the load's end on
+module _ (C : Candidates) (H : List Address) (b n : Both) (s : IsSound C H false b) (a : AreFilledOf (entries_of H C) n) where
   pub sound_end : IsSound C H true n
   sound_end = record {
     elems = s.elems;
@@ -178,21 +188,15 @@ module _ (C : Candidates) (H : List Address) (b t n : Both) (s : IsSound C H fal
     candidates = s.candidates;
     hops = s.hops;
     few = s.few;
-    v4 = kept_fresh V4 (entries_of H C) [] t.v4.routes n.v4 (k.v4_family ∙ a.families.0) k.v4 a.v4 v4;
-    v6 = kept_fresh V6 (entries_of H C) [] t.v6.routes n.v6 (k.v6_family ∙ a.families.1) k.v6 a.v6 v6;
+    v4 = kept_fresh V4 (entries_of H C) [] (only V4 (entries_of H C)) n.v4 a.families.0 a.v4 refl a.v4_least;
+    v6 = kept_fresh V6 (entries_of H C) [] (only V6 (entries_of H C)) n.v6 a.families.1 a.v6 refl a.v6_least;
   }
-
-  low_end : n.v4.entries ≡ aggregate_in V4 (only V4 (entries_of H C)) []
-  low_end = v4 ∙ ap (λ (R : Entries). aggregate_in V4 R []) a.v4
-
-  high_end : n.v6.entries ≡ aggregate_in V6 (only V6 (entries_of H C)) []
-  high_end = v6 ∙ ap (λ (R : Entries). aggregate_in V6 R []) a.v6
 
   pub table_end : both_tables n ≡ kept_at_load H C
   table_end =
       let E = entries_of H C in
-      ap (λ (L : Entries). L ++ n.v6.entries) low_end
-      ∙ (ap (λ (L : Entries). aggregate_in V4 (only V4 E) [] ++ L) high_end ∙ (both_aggregates E [] [] tt tt ∙ sym (snapshot_is E [])))
+      ap (λ (L : Entries). L ++ n.v6.entries) a.v4_least
+      ∙ (ap (λ (L : Entries). aggregate_in V4 (only V4 E) [] ++ L) a.v6_least ∙ (both_aggregates E [] [] tt tt ∙ sym (snapshot_is E [])))
 
 pub stands_end : (load : List Elem) (old new : EngineState) → new.candidates ≡ old.candidates → new.hops ≡ old.hops → new.table ≡ kept_at_load old.hops old.candidates → new.loaded ≡ true → new.events ≡ old.events → shortage new.sizes (engine_routes new) ≡ None → IsLoading load old → EngineStands load [] new
 unfolding table_from

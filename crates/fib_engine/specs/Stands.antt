@@ -61,6 +61,20 @@ pub record EndsLoad (old new : EngineState) : Type 0 where
   pub events : new.events ≡ old.events
   pub moves : new.moves ≡ old.moves
 
+-- the engine as the end of its load leaves it
+abbrev pub after_load : EngineState → EngineState
+after_load old = record {
+  every = old.every;
+  fewest = old.fewest;
+  sizes = old.sizes;
+  candidates = old.candidates;
+  hops = old.hops;
+  table = kept_at_load old.hops old.candidates;
+  loaded = true;
+  events = old.events;
+  moves = old.moves;
+}
+
 -- the changes of one after the load: those of its first step, and then those of the snapshot, if one is due
 abbrev pub changes_of : Elem → EngineState → List Change
 changes_of elem old = told_of old.fewest false old.every (hops_after old.hops (elem ∷ [])) (old.events + 1) old.candidates old.table elem

@@ -5,6 +5,7 @@ use Rattle.table_model.specs.Address.{same_family}
 use Rattle.table_model.specs.declared.family.Family.{Family}
 use Rattle.table_model.specs.declared.family.Family.TheVariants.{V4, V6}
 use Rattle.table_model.specs.Entries.{Entries, in_order}
+use Rattle.table_model.specs.Both.{aggregate_in}
 use Rattle.table_model.specs.Changes.{Change, after_changes}
 use Rattle.fib_addr.specs.declared.prefix.Prefix as code_prefix
 use Rattle.fib_addr.specs.declared.entry.Hop as code_hop
@@ -113,6 +114,14 @@ pub record AreOfRoutes (E : Entries) (both : Both) : Type 0 where
   pub v6 : both.v6.routes ≡ only V6 E
   pub v4_empty : both.v4.entries ≡ []
   pub v6_empty : both.v6.entries ≡ []
+
+-- the tables of these routes, each the least one
+pub record AreFilledOf (E : Entries) (both : Both) : Type 0 where
+  pub families : AreBoth both
+  pub v4 : both.v4.routes ≡ only V4 E
+  pub v6 : both.v6.routes ≡ only V6 E
+  pub v4_least : both.v4.entries ≡ aggregate_in V4 (only V4 E) []
+  pub v6_least : both.v6.entries ≡ aggregate_in V6 (only V6 E) []
 
 -- ---- needs
 

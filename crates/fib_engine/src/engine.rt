@@ -7,7 +7,7 @@ ghost use Rattle.table_model.specs.Both.{aggregate_in_both};
 ghost use Rattle.cert_model.specs.Rows.{certificate_of};
 ghost use Rattle.route_model.specs.Events.{Elem as model_elem};
 ghost use Rattle.route_model.specs.Choice.{elems_of};
-ghost use Rattle.kept_model.specs.Kept.{changed_at};
+ghost use Rattle.kept_model.specs.Kept.{changed_at, kept_at_load};
 ghost use Rattle.moves_model.specs.Shortest.{AreShortest};
 ghost use Rattle.fib_addr.specs.Views.{entry_as};
 ghost use Rattle.fib_prefix.specs.Views.{elem_as, event_as};
@@ -17,9 +17,9 @@ ghost use Rattle.cert_model.specs.Views.{row_as};
 ghost use Rattle.route_tries.specs.Sizes.{AreFew, needs_of, shortage, sizes_as};
 ghost use Rattle.route_tries.specs.Tries.{AreTriesOf};
 ghost use Rattle.route_tries.specs.declared.sizes.TrieFull.{TrieFull};
-ghost use Rattle.fib_engine.specs.Held.{engine_routes, routes_told};
-ghost use Rattle.fib_engine.specs.Tables.{AreOfRoutes, only};
-ghost use Rattle.fib_engine.specs.Stands.{EndsLoad, IsLoading, IsShortFor, IsTooMany, Loads, EngineStands, TakesElem, changes_of, first_of, routes_after};
+ghost use Rattle.fib_engine.specs.Held.{AreKeptNeeds, engine_routes, routes_told};
+ghost use Rattle.fib_engine.specs.Tables.{AreFilledOf, AreOfRoutes, only, table_of};
+ghost use Rattle.fib_engine.specs.Stands.{EndsLoad, IsLoading, IsShortFor, IsTooMany, Loads, EngineStands, TakesElem, after_load, changes_of, first_of, routes_after};
 
 use crate::error::EngineError;
 use crate::final_fib::FinalFib;
@@ -29,7 +29,7 @@ use crate::route_source::RouteSource;
 use crate::staged::Staged;
 use crate::tables::{EventChanges, Tables};
 use fib_prefix::{Addr, Elem, Entry, Event, Family, HopTable, Prefix, Via};
-use ortc::Fresh;
+use ortc::{Fresh, PackedTable};
 use route_choice::{Candidates, FamilyRoutes};
 use route_tries::{FamilyNeeds, Sizes, Tries, TriesError};
 use std::alloc::{AllocError, Global};
@@ -262,6 +262,40 @@ impl Engine {
         Ok(tables)
     }
 
+    /// The tables of the routes, before their first snapshot, and what tries of the routes need.
+    ///
+    /// # Errors
+    ///
+    /// `TrieFull` exactly if that is more than an arena has, of which it names the first; or out of memory.
+    fn fitting_tables(&self) -> Result<(Tables, FamilyNeeds), EngineError>
+        ensures tables { IfOk result (λ r. AreOfRoutes (engine_routes self.now) r.0) }
+        ensures needs { IfOk result (λ r. AreKeptNeeds self.now.sizes (engine_routes self.now) r.1) }
+        ensures hops { ¬ (IsErrOf result EngineError.HopsFull) }
+        ensures short { (t : TrieFull) → IsErrOf result (EngineError.TrieFull t)
+            → IsShortFor self.now (engine_routes self.now) t }
+    {
+        let tables = self.tables_of_routes()?;
+        let needs = tables.needs(self.parts.limits.sizes.direct);
+        needs.fit(&self.parts.limits.sizes)?;
+        Ok((tables, needs))
+    }
+
+    /// Ends the load with the kept tables, which are least for the routes.
+    fn end_load(&mut self, tables: Tables, needs: FamilyNeeds)
+        requires load { self.old.loaded ≡ false }
+        requires tables { AreFilledOf (engine_routes self.old) tables }
+        requires needs { AreKeptNeeds self.old.sizes (engine_routes self.old) needs }
+        ensures ends { EndsLoad self.old self.new }
+        ensures table { self.new.table ≡ table_of tables }
+        ensures stands { (load : List model_elem) → IsLoading load self.old
+            → EngineStands load [] self.new }
+        ensures fits { shortage self.new.sizes (engine_routes self.new) ≡ None }
+    {
+        self.parts.tables = tables;
+        self.parts.needs = needs;
+        self.parts.is_loaded = true;
+    }
+
     /// Ends the load: makes the kept tables, which are least for the routes, and returns their entries; counts what tries of the
     /// routes need.
     ///
@@ -281,14 +315,67 @@ impl Engine {
             → IsShortFor self.old (engine_routes self.old) t }
         ensures err { OnErr result (self.new ≡ self.old) }
     {
-        let tables = self.tables_of_routes()?;
-        let needs = tables.needs(self.parts.limits.sizes.direct);
-        needs.fit(&self.parts.limits.sizes)?;
-        let (tables, entries) = tables.filled()?;
-        self.parts.tables = tables;
-        self.parts.needs = needs;
-        self.parts.is_loaded = true;
+        let (tables, needs) = self.fitting_tables()?;
+        let (tables, packed) = tables.filled()?;
+        let mut entries = Vec::new(self.parts.alloc);
+        packed.emit(&mut entries)?;
+        self.end_load(tables, needs);
         Ok(entries)
+    }
+
+    /// Ends the load as `finish_load` does, and returns the entries in half the memory.
+    ///
+    /// # Errors
+    ///
+    /// As `finish_load`'s.
+    pub fn finish_load_packed(&mut self) -> Result<PackedTable, EngineError>
+        requires { self.old.loaded ≡ false }
+        ensures ends { OnOk result (EndsLoad self.old self.new) }
+        ensures entries { IfOk result (λ t. t ≡ self.new.table) }
+        ensures stands { OnOk result ((load : List model_elem) → IsLoading load self.old
+            → EngineStands load [] self.new) }
+        ensures fits { OnOk result (shortage self.new.sizes (engine_routes self.new) ≡ None) }
+        ensures hops { ¬ (IsErrOf result EngineError.HopsFull) }
+        ensures short { (t : TrieFull) → IsErrOf result (EngineError.TrieFull t)
+            → IsShortFor self.old (engine_routes self.old) t }
+        ensures err { OnErr result (self.new ≡ self.old) }
+    {
+        let (tables, needs) = self.fitting_tables()?;
+        let (tables, entries) = tables.filled()?;
+        self.end_load(tables, needs);
+        Ok(entries)
+    }
+
+    /// Ends the load for good: no events follow. It returns what is left to be written, and the hops with their numbers, as
+    /// `finish_load` and then `settle` would. The candidates are let go before the kept tables are made, and no list of the
+    /// entries is left.
+    ///
+    /// # Errors
+    ///
+    /// As `finish_load`'s.
+    pub fn settle_load(self) -> Result<(FinalFib, HopTable), EngineError>
+        requires { self.loaded ≡ false }
+        ensures sizes { IfOk result (λ r. r.0.sizes ≡ self.sizes) }
+        ensures routes { IfOk result (λ r. r.0.routes ≡ engine_routes self) }
+        ensures table { IfOk result (λ r. r.0.table ≡ kept_at_load self.hops self.candidates) }
+        ensures hop_list { IfOk result (λ r. r.1.list ≡ self.hops) }
+        ensures stands { OnOk result ((load : List model_elem) → IsLoading load self
+            → EngineStands load [] (after_load self)) }
+        ensures hops { ¬ (IsErrOf result EngineError.HopsFull) }
+        ensures short { (t : TrieFull) → IsErrOf result (EngineError.TrieFull t)
+            → IsShortFor self (engine_routes self) t }
+    {
+        let (tables, needs) = self.fitting_tables()?;
+        let parts = self.parts;
+        drop(parts.candidates);
+        let tables = tables.filled_alone()?;
+        let final_fib = FinalFib {
+            alloc: parts.alloc,
+            tables,
+            needs,
+            sizes: parts.limits.sizes,
+        };
+        Ok((final_fib, parts.hops))
     }
 
     /// The kept table, in the order of prefixes.

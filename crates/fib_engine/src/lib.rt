@@ -31,6 +31,7 @@ pub use engine::{Engine, Limits};
 pub use error::EngineError;
 pub use final_fib::FinalFib;
 pub use laws::one_state_law;
+pub use ortc::PackedTable;
 pub use route_tries::{FamilyNeeds, Found, Needs, Sizes, TrieFull, Tries};
 pub use staged::{Planned, Staged};
 pub use tables::EventChanges;

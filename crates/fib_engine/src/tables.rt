@@ -20,7 +20,7 @@ use fib_addr::EntrySink;
 use fib_delta::Change;
 use fib_prefix::{Entry, Family, Hop, Prefix};
 use orig_tree::{EntrySource, Tree};
-use ortc::Fresh;
+use ortc::{Fresh, PackedTable};
 use route_tries::FamilyNeeds;
 use smalta_keep::{Keep, Moved, Repair};
 use std::alloc::{AllocError, Global};
@@ -156,18 +156,36 @@ impl Tables {
     /// # Errors
     ///
     /// Out of memory.
-    pub fn filled(self) -> Result<(Tables, Vec<Entry>), AllocError>
+    pub fn filled(self) -> Result<(Tables, PackedTable), AllocError>
         requires both { AreBoth self }
         requires empty { (self.v4.entries ≡ []) × (self.v6.entries ≡ []) }
         ensures routes { IfOk result (λ r. KeepRoutes self r.0) }
         ensures v4 { IfOk result (λ r. r.0.v4.entries ≡ aggregate_in V4 self.v4.routes []) }
         ensures v6 { IfOk result (λ r. r.0.v6.entries ≡ aggregate_in V6 self.v6.routes []) }
-        ensures entries { IfOk result (λ r. map entry_as r.1.items ≡ table_of r.0) }
+        ensures entries { IfOk result (λ r. r.1 ≡ table_of r.0) }
     {
-        let (v4, mut entries) = self.v4.filled()?;
-        let (v6, others) = self.v6.filled()?;
-        entries.extend_from_slice(&others)?;
+        let (v4, mut entries) = self.v4.filled_packed()?;
+        let (v6, others) = self.v6.filled_packed()?;
+        entries.append(&others)?;
         Ok((Tables { v4, v6 }, entries))
+    }
+
+    /// The routes with their least tables in place of empty ones. No list of their entries is left.
+    ///
+    /// # Errors
+    ///
+    /// Out of memory.
+    pub fn filled_alone(self) -> Result<Tables, AllocError>
+        requires both { AreBoth self }
+        requires empty { (self.v4.entries ≡ []) × (self.v6.entries ≡ []) }
+        ensures routes { IfOk result (KeepRoutes self) }
+        ensures v4 { IfOk result (λ t. t.v4.entries ≡ aggregate_in V4 self.v4.routes []) }
+        ensures v6 { IfOk result (λ t. t.v6.entries ≡ aggregate_in V6 self.v6.routes []) }
+    {
+        let (v4, entries) = self.v4.filled_packed()?;
+        drop(entries);
+        let (v6, _) = self.v6.filled_packed()?;
+        Ok(Tables { v4, v6 })
     }
 
     /// Plans the repair if a route changes, or the fewest changes that its family's table needs then, and a
