@@ -22,10 +22,10 @@ use Rattle.fib_due.specs.declared.outcome.Which.TheVariants as which
 use Rattle.fib_run.specs.declared.state.FeedError.{FeedError}
 use Rattle.fib_run.specs.declared.state.FeedError.TheVariants as feed
 use Rattle.kept_model.specs.Feed.{at_event, entries_of, hops_after}
-use Rattle.fib_addr.specs.Views.{entry_as}
+use Rattle.table_model.specs.Entries.{Entries}
 use Rattle.fib_due.proofs.Due.{Content, due_feed, load_lacks, load_short}
 
-pub stands_new : (limits : Limits) (state : State) → state.engine ≡ record { every = limits.every; fewest = limits.fewest; sizes = limits.sizes; candidates = []; hops = []; table = []; loaded = false; events = 0; moves = None } → state.fewest ≡ limits.fewest → state.steady ≡ limits.steady → state.added.items ≡ [] → state.changes.items ≡ [] → state.moves.items ≡ [] → StateStands Dump limits [] [] state
+pub stands_new : (limits : Limits) (state : State) → state.engine ≡ record { every = limits.every; fewest = limits.fewest; sizes = limits.sizes; candidates = []; hops = []; table = []; loaded = false; events = 0; moves = None } → state.fewest ≡ limits.fewest → state.steady ≡ limits.steady → state.added ≡ [] → state.changes.items ≡ [] → state.moves.items ≡ [] → StateStands Dump limits [] [] state
 unfolding stop_at
 stands_new limits state e f t a n m = record {
   engine = rw e (record { candidates = refl; hops = refl; proper = tt; table = refl; loaded = refl; events = refl; moves = refl });
@@ -36,7 +36,7 @@ stands_new limits state e f t a n m = record {
   sizes_are = ap (λ (h : EngineState). h.sizes) e;
   few = rw e (omega arith);
   fits = refl;
-  changes = ap (λ es. at_event 0 (additions (map entry_as es)) ++ changes_as state.changes.items) a ∙ ap changes_as n;
+  changes = ap (λ (es : Entries). at_event 0 (additions es) ++ changes_as state.changes.items) a ∙ ap changes_as n;
   moves = ap (map moves_as) m;
 }
 

@@ -25,7 +25,6 @@ use Rattle.kept_model.specs.Told.{steady_if}
 use Rattle.moves_model.specs.Reported.{counted_at, first_changes, moves_from, moves_of, told_from, told_of as event_told}
 use Rattle.kept_model.specs.Kept.{changed_at}
 use Rattle.kept_model.proofs.FeedSums.{snapshot_placed}
-use Rattle.fib_addr.specs.Views.{entry_as}
 use Rattle.fib_addr.specs.Hops.{most_hops}
 use Rattle.fib_due.specs.declared.outcome.MrtInput.{MrtInput}
 use Rattle.fib_due.specs.declared.outcome.MrtInput.TheVariants.{Dump, Updates}
@@ -222,7 +221,7 @@ between_none [] s = refl
 between_none (e ∷ T) s = first_new e [] T tt s.0 ∙ ap (λ cs. Add e.0 e.1 ∷ cs) (between_none T s.1)
 
 pub load_ended : (limits : Limits) (load : List Elem) (old new : State) → EndsLoad old.engine new.engine → ((load : List Elem) → IsLoading load old.engine → EngineStands load [] new.engine) → new.fewest ≡ old.fewest → new.steady ≡ old.steady
-    → (IsStrictlySortedBy prefix_cmp (keys_of new.engine.table) → additions (map entry_as new.added.items) ≡ steady_if new.steady (additions new.engine.table)) → new.changes.items ≡ old.changes.items → new.moves.items ≡ old.moves.items
+    → (IsStrictlySortedBy prefix_cmp (keys_of new.engine.table) → additions new.added ≡ steady_if new.steady (additions new.engine.table)) → new.changes.items ≡ old.changes.items → new.moves.items ≡ old.moves.items
     → StateStands Dump limits [] load old → StateStands Updates limits load [] new
 unfolding stop_at told_from moves_from
 load_ended limits load old new e stands f y there same kept s = record {
@@ -258,7 +257,7 @@ load_ended limits load old new e stands f y there same kept s = record {
   sorted = subst (λ (L : Entries). IsStrictlySortedBy prefix_cmp (keys_of L)) (sym table) placed
 
   none : changes_as new.changes.items ≡ []
-  none = ap changes_as same ∙ last_none (at_event 0 (additions (map entry_as old.added.items))) (changes_as old.changes.items) s.changes
+  none = ap changes_as same ∙ last_none (at_event 0 (additions old.added)) (changes_as old.changes.items) s.changes
 
 -- its end isn't reached
 pub load_short : (limits : Limits) (load : List Elem) (old : State) (full : TrieFull) → StateStands Dump limits [] load old → IsShortFor old.engine (engine_routes old.engine) full → shortage limits.sizes (routes_by load) ≡ Some (shortage_as full)

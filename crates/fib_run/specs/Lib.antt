@@ -4,5 +4,6 @@ pub mod Told
 pub mod Standing
 pub mod Loaded
 pub mod Feeds
+pub mod Final
 pub mod Reads
 pub mod Written

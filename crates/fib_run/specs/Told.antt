@@ -2,7 +2,6 @@
 use Rattle.std.specs.Prelude.{Bool, true, false, ℕ, ◌+◌, ◌++◌, List, [], ◌∷◌, map, Option, Some, None}
 use Rattle.table_model.specs.Changes.{Change, additions}
 use Rattle.kept_model.specs.Feed.{at_event}
-use Rattle.fib_addr.specs.Views.{entry_as}
 use Rattle.fib_delta.specs.declared.change.Change as code_change
 use Rattle.fib_report.specs.declared.run.Report.{Report}
 use Rattle.fib_report.specs.Views.{moves_as}
@@ -21,7 +20,7 @@ changes_as changes = map (λ c. (c.0, change_as c.1)) changes
 
 -- all changes of a state: those of the load, event 0, and those of updates
 abbrev pub told_changes : State → List (ℕ × Change)
-told_changes state = at_event 0 (additions (map entry_as state.added.items)) ++ changes_as state.changes.items
+told_changes state = at_event 0 (additions state.added) ++ changes_as state.changes.items
 
 -- the row of an event that needed n changes, if it changed a chosen hop and that is asked for
 abbrev pub moves_told : Bool → ℕ → Option ℕ → List (ℕ × ℕ)

@@ -1,7 +1,7 @@
 //! The order in which the router gets the changes of an event: that of prefixes, or steady order, in which no packet goes astray
 //! while it makes them one by one.
 
-ghost use Rattle.std.specs.Prelude.{◌≡◌, ◌≤◌, ◌++◌, length, map};
+ghost use Rattle.std.specs.Prelude.{◌≡◌, ◌≤◌, ◌++◌, length, map, IfOk};
 ghost use Rattle.std.specs.List.Sorted.{IsStrictlySortedBy};
 ghost use Rattle.std.specs.Map.{keys_of};
 ghost use Rattle.table_model.specs.Order.{prefix_cmp};
@@ -9,11 +9,11 @@ ghost use Rattle.table_model.specs.Entries.{Entries};
 ghost use Rattle.table_model.specs.Changes.{additions};
 ghost use Rattle.kept_model.specs.Between.{between};
 ghost use Rattle.kept_model.specs.Told.{steady_if};
-ghost use Rattle.fib_addr.specs.Views.{entry_as};
 ghost use Rattle.fib_delta.specs.Views.{change_as};
 
 use fib_delta::{Change, put_entries_in_steady_order, put_event_in_steady_order};
-use fib_prefix::Entry;
+use fib_engine::PackedTable;
+use std::alloc::{AllocError, Global};
 
 /// Puts an event's changes in the order in which they are written: the first `first` ones, which are those of its first step, and
 /// then the others, which are those of the snapshot that follows it, each in itself. Both stand in the order of prefixes.
@@ -30,14 +30,27 @@ pub fn order_event(changes: &mut [Change], first: usize, steady: bool)
     }
 }
 
-/// Puts the entries that a load adds in the order in which they are written. They stand in the order of prefixes.
-pub fn order_load(entries: &mut [Entry], steady: bool)
-    ensures same { length entries.new ≡ length entries.old }
-    ensures told { IsStrictlySortedBy prefix_cmp (keys_of (map entry_as entries.old)) →
-        additions (map entry_as entries.new)
-        ≡ steady_if steady (additions (map entry_as entries.old)) }
+/// The entries that a load adds, in the order in which they are written. They stand in the order of prefixes; only for steady
+/// order is a list of them made.
+///
+/// # Errors
+///
+/// Out of memory.
+pub fn order_load(
+    alloc: Global,
+    entries: PackedTable,
+    steady: bool,
+) -> Result<PackedTable, AllocError>
+    ensures { IfOk result (λ t. IsStrictlySortedBy prefix_cmp (keys_of entries) →
+        additions t ≡ steady_if steady (additions entries)) }
 {
-    if steady {
-        put_entries_in_steady_order(entries);
+    if !steady {
+        return Ok(entries);
     }
+    let mut list = Vec::new(alloc);
+    entries.emit(&mut list)?;
+    drop(entries);
+    put_entries_in_steady_order(&mut list);
+    let packed = PackedTable::of(alloc, &list)?;
+    Ok(packed)
 }

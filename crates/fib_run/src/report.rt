@@ -10,7 +10,7 @@ ghost use Rattle.table_model.specs.Entries.{Entries};
 ghost use Rattle.table_model.specs.Both.{aggregate_in_both};
 ghost use Rattle.table_model.specs.Changes.{additions};
 ghost use Rattle.kept_model.specs.Feed.{at_event};
-ghost use Rattle.fib_addr.specs.Views.{addr_as, entry_as};
+ghost use Rattle.fib_addr.specs.Views.{addr_as};
 ghost use Rattle.fib_due.specs.Due.{answers_to, Feed, printed, printed_text};
 ghost use Rattle.fib_report.specs.Rows.{of_answer, of_change, of_invalid, of_moves, report_text, table_entry_row};
 ghost use Rattle.printed_text.specs.Numbered.{of_least, of_route};
@@ -21,17 +21,19 @@ ghost use Rattle.route_tries.specs.Tries.{AreTriesOf};
 ghost use Rattle.fib_due.specs.Refusals.{Limits};
 ghost use Rattle.fib_run.specs.Counts.{AddUp};
 ghost use Rattle.fib_run.specs.Standing.{IsFed};
+ghost use Rattle.fib_run.specs.Final.{Settles, load_added};
+ghost use Rattle.fib_run.specs.declared.state.State.{State as code_state};
 ghost use Rattle.fib_due.specs.Proves.{ChecksYes};
 ghost use Rattle.fib_run.specs.Told.{changes_as, totals};
 ghost use Rattle.fib_run.specs.Written.{WritesEvents, WritesTables};
 ghost use Rattle.cert_model.specs.Rows.{certificate_of};
 
 use crate::feed::Counts;
-use crate::state::State;
-use fib_addr::Steps;
+use crate::state::{FinalState, State};
+use fib_addr::{EntrySink, Steps};
 use fib_delta::Change;
-use fib_engine::{FamilyNeeds, FinalFib, Tries};
-use fib_prefix::{Addr, Entry};
+use fib_engine::{FamilyNeeds, FinalFib, PackedTable, Tries};
+use fib_prefix::Addr;
 use fib_report::{Answer, Moves, Report, RunText, Section, report_text};
 use std::alloc::{AllocError, Global};
 use std::marker::Brand;
@@ -126,19 +128,52 @@ fn write_invalid(fed: &InputCounts, text: &mut RunText<'_>) -> Result<(), AllocE
     text.invalids(&fed.updates.invalid)
 }
 
-/// Writes the changes of the load and those of updates, which are let go then.
-fn write_changes(
-    added: Vec<Entry>,
-    changes: Vec<(u64, Change)>,
-    text: &mut RunText<'_>,
+/// Hands on the entries that the load added: those that are kept, else those of the kept table.
+fn emit_added<S: EntrySink>(
+    final_fib: &FinalFib,
+    added: &Option<PackedTable>,
+    out: &mut S,
 ) -> Result<(), AllocError>
-    requires { IsReady text.old }
-    ensures { OnOk result (WritesRows text.old text.new (map (of_change (text_hops text.old))
-        (at_event 0 (additions (map entry_as added.items)) ++ changes_as changes.items))) }
+    requires { S.ready out.old }
+    ensures ready { OnOk result (S.ready out.new) }
+    ensures takes { OnOk result (S.takes out.old (load_added added.now final_fib.now.table) out.new) }
 {
-    text.entries(Section::Added, &added)?;
+    match added {
+        Some(added) => added.emit(out),
+        None => final_fib.emit_table(out),
+    }
+}
+
+/// Writes what the load added.
+fn write_added<'a>(
+    final_fib: &FinalFib,
+    added: &Option<PackedTable>,
+    text: RunText<'a>,
+) -> Result<RunText<'a>, AllocError>
+    requires { IsReady text }
+    ensures { IfOk result (λ t. WritesRows text.entry t (map (of_change (text_hops text.entry))
+        (at_event 0 (additions (load_added added.now final_fib.now.table))))) }
+{
+    let mut rows = text.section(Section::Added);
+    emit_added(final_fib, added, &mut rows)?;
+    Ok(rows.end().0)
+}
+
+/// Writes the changes of the load and those of updates, which are let go then.
+fn write_changes<'a>(
+    final_fib: &FinalFib,
+    added: Option<PackedTable>,
+    changes: Vec<(u64, Change)>,
+    text: RunText<'a>,
+) -> Result<RunText<'a>, AllocError>
+    requires { IsReady text }
+    ensures { IfOk result (λ t. WritesRows text.entry t (map (of_change (text_hops text.entry))
+        (at_event 0 (additions (load_added added final_fib.now.table)) ++ changes_as changes.items))) }
+{
+    let mut text = write_added(final_fib, &added, text)?;
+    drop(added);
     text.changes(&changes)?;
-    Ok(())
+    Ok(text)
 }
 
 /// Writes how many changes each event needed, if that is asked for. The list is let go then.
@@ -151,23 +186,25 @@ fn write_moves(moves: Vec<Moves>, text: &mut RunText<'_>) -> Result<(), AllocErr
 
 /// Writes what events brought: the announcements that are Invalid, the changes, and how many changes each event needed. The lists are let
 /// go then.
-fn write_events(
+fn write_events<'a>(
     fed: &InputCounts,
-    added: Vec<Entry>,
+    final_fib: &FinalFib,
+    added: Option<PackedTable>,
     changes: Vec<(u64, Change)>,
     moves: Vec<Moves>,
-    text: &mut RunText<'_>,
-) -> Result<(), AllocError>
-    requires { IsReady text.old }
-    ensures { OnOk result (WritesEvents text.old text.new (map of_invalid
+    text: RunText<'a>,
+) -> Result<RunText<'a>, AllocError>
+    requires { IsReady text }
+    ensures { IfOk result (λ t. WritesEvents text.entry t (map of_invalid
         (map invalid_as fed.now.load.invalid.items ++ map invalid_as fed.now.updates.invalid.items))
-        (at_event 0 (additions (map entry_as added.items)) ++ changes_as changes.items)
+        (at_event 0 (additions (load_added added final_fib.now.table)) ++ changes_as changes.items)
         (map of_moves (map moves_as moves.items))) }
 {
-    write_invalid(fed, text)?;
-    write_changes(added, changes, text)?;
-    write_moves(moves, text)?;
-    Ok(())
+    let mut text = text;
+    write_invalid(fed, &mut text)?;
+    let mut text = write_changes(final_fib, added, changes, text)?;
+    write_moves(moves, &mut text)?;
+    Ok(text)
 }
 
 /// Writes each address with its answer.
@@ -241,19 +278,37 @@ pub fn write_text(
     ensures yes { (limits : Limits) (load updates : Feed) → IsFed limits load updates fed.now state
         → IfOk result (λ text. ChecksYes text.items) }
 {
-    let State {
-        engine,
+    // from here on no candidate is held
+    write_final(alloc, state.settle(), fed, asks)
+}
+
+/// The same, once no more events come.
+pub fn write_final(
+    alloc: Global,
+    ended: FinalState,
+    fed: &InputCounts,
+    asks: &[Addr],
+) -> Result<Vec<u8>, AllocError>
+    requires counts { AddUp fed.now.load fed.now.updates }
+    ensures text { (limits : Limits) (load updates : Feed) (state : code_state)
+        → IsFed limits load updates fed.now state → Settles state ended
+        → IfOk result (λ text. text.items
+        ≡ printed_text (printed limits load updates (map addr_as asks.now))) }
+    ensures yes { (limits : Limits) (load updates : Feed) (state : code_state)
+        → IsFed limits load updates fed.now state → Settles state ended
+        → IfOk result (λ text. ChecksYes text.items) }
+{
+    let FinalState {
+        final_fib,
+        hops,
         added,
         changes,
         moves,
-        ..
-    } = state;
-    // from here on no candidate is held
-    let (final_fib, hops) = engine.settle();
+    } = ended;
     let needs = final_fib.needs();
     let text = RunText::new(alloc, &hops);
-    let (mut text, routes) = write_routes(&final_fib, text)?;
-    write_events(fed, added, changes, moves, &mut text)?;
+    let (text, routes) = write_routes(&final_fib, text)?;
+    let mut text = write_events(fed, &final_fib, added, changes, moves, text)?;
     write_answers(alloc, &final_fib, asks, &mut text)?;
     let (mut text, entries) = write_tables(final_fib, text)?;
     text.report(&totals(fed, routes, entries, &needs))?;

@@ -1,10 +1,10 @@
 //! From the words and the inputs to the text that is due.
 
-ghost use Rattle.std.specs.Prelude.{◌≡◌, ◌≤◌, ◌^◌, ◌∷◌, List, [], Ok, Some, None, length, map, IfErr, IfOk, IfSome, IsSome, OnErr, OnOk, option_to_list, true};
+ghost use Rattle.std.specs.Prelude.{◌≡◌, ◌≤◌, ◌^◌, ◌∷◌, List, [], Ok, Some, None, length, map, IfErr, IfOk, IfSome, IsSome, OnErr, OnOk, option_to_list, false, true};
 ghost use Rattle.fib_addr.specs.Views.{addr_as};
 ghost use Rattle.fib_run.specs.Asking.{ask_refusal};
 ghost use Rattle.fib_run.specs.Counts.{AddUp, AreBounded};
-ghost use Rattle.fib_due.specs.Due.{asks_at, feed_at, limits_of, made_at, made_named, run_at, told_at, vrps_at, vrps_in_input, with_counts, with_text};
+ghost use Rattle.fib_due.specs.Due.{asks_at, feed_at, limits_of, made_at, made_named, no_feed, run_at, told_at, vrps_at, vrps_in_input, with_counts, with_text};
 ghost use Rattle.fib_due.specs.Ends.{feeds_named, reads_named, ReadsName, ReadsNames};
 ghost use Rattle.fib_io.specs.Reads.{Makes};
 ghost use Rattle.fib_due.specs.InTime.{FeedMayGoOn, TextMayGoOn, RunMayGoOn};
@@ -12,7 +12,8 @@ ghost use Rattle.fib_due.specs.Owned.{StopsAt, StopsIn};
 ghost use Rattle.fib_due.specs.Passes.{ReadsOf, feed_inputs, input_for, run_inputs};
 ghost use Rattle.fib_due.specs.Proves.{ChecksYes};
 ghost use Rattle.fib_run.specs.Told.{limits_as};
-ghost use Rattle.fib_run.specs.Standing.{FeedsBoth, HoldsMade, IsAtEvent, StateFeeds, feed_outcome, StateStands};
+ghost use Rattle.fib_run.specs.Final.{FeedsLoad};
+ghost use Rattle.fib_run.specs.Standing.{FeedsBoth, HoldsMade, IsAtEvent, IsCounted, StateFeeds, feed_outcome, StateStands};
 ghost use Rattle.fib_due.specs.Refusals.{Limits as ends};
 ghost use Rattle.fib_due.specs.Stops.{GivesDue, IsDueIfTold, event_in, input_of};
 ghost use Rattle.fib_due.specs.Untold.{TextOfSome};
@@ -21,8 +22,8 @@ ghost use Rattle.route_model.specs.Events.{Elem};
 
 use crate::asks::{AskError, read_asks};
 use crate::feed::{Counts, feed};
-use crate::report::{InputCounts, write_counts, write_text};
-use crate::state::{FeedError, State};
+use crate::report::{InputCounts, write_counts, write_final, write_text};
+use crate::state::{FeedError, FinalState, State};
 use fib_due::{MrtInput, Outcome, Which, octets_of};
 use fib_engine::{Limits, Sizes};
 use fib_io::{Inputs, SureInputs};
@@ -186,6 +187,19 @@ pub(crate) fn feed_of<I: Inputs>(
     feed(alloc, inputs, state, vrps, which, name).map_err(|error| outcome_of_refusal(which, error))
 }
 
+/// The counts of no input.
+fn no_counts(alloc: Global) -> Counts
+    ensures { IsCounted no_feed result }
+{
+    Counts {
+        records: 0,
+        skipped: 0,
+        events: 0,
+        treated: 0,
+        invalid: Vec::new(alloc),
+    }
+}
+
 /// Takes what the updates bring, if any are named.
 #[tactic(auto, using(fib_due::proofs::Passes::nothing_read), unfolding(fib_due::specs::Due::feed_at))]
 fn updates_of<I: Inputs>(
@@ -218,13 +232,7 @@ fn updates_of<I: Inputs>(
 {
     match command.updates {
         Some(name) => feed_of(alloc, inputs, state, vrps, MrtInput::Updates, name),
-        None => Ok(Counts {
-            records: 0,
-            skipped: 0,
-            events: 0,
-            treated: 0,
-            invalid: Vec::new(alloc),
-        }),
+        None => Ok(no_counts(alloc)),
     }
 }
 
@@ -272,16 +280,96 @@ fn feed_both<I: Inputs>(
         result) }
 {
     let load = feed_of(alloc, inputs, state, vrps, MrtInput::Dump, command.dump)?;
-    if let Err(error) = state.finish_load() {
+    if let Err(error) = state.finish_load(alloc) {
         return Err(outcome_of_refusal(MrtInput::Dump, error));
     }
     let updates = updates_of(alloc, inputs, state, vrps, command)?;
     Ok(InputCounts { load, updates })
 }
 
-/// Takes the dump and the updates, and returns the text.
+/// Takes the dump and ends the load for good, if no updates are named and steady order isn't asked for.
+#[tactic(auto, unfolding(fib_due::specs::Due::feeds_at))]
+fn feed_load<I: Inputs>(
+    alloc: Global,
+    inputs: &mut I,
+    state: State,
+    vrps: &Vrps,
+    command: &RunWords<'_>,
+) -> Result<(InputCounts, FinalState), Outcome>
+    requires alone { (named_as command.now).updates ≡ None }
+    requires order { state.steady ≡ false }
+    requires ready { IsAtEvent MrtInput.Dump 0 state.engine }
+    requires none { state.engine.candidates ≡ [] }
+    requires told { IsDueIfTold (vrps_at (I.content inputs.old) (named_as command.now).vrps)
+        (Ok vrps.now) }
+    ensures due { StateStands MrtInput.Dump (limits_of (named_as command.now)) [] [] state
+        → FeedsLoad (I.content inputs.old) vrps.now (named_as command.now) result }
+    ensures stops { IfErr result (StopsIn (Run (named_as command.now))) }
+    ensures counts { IfOk result (λ r. AddUp r.0.load r.0.updates) }
+    ensures same { I.content inputs.new ≡ I.content inputs.old }
+    ensures cause { StateStands MrtInput.Dump (limits_of (named_as command.now)) [] [] state
+        → ReadsNames (feeds_named (I.content inputs.old) vrps.now (named_as command.now))
+        (I.faults inputs.old) (I.faults inputs.new) result }
+    ensures reads { StateStands MrtInput.Dump (limits_of (named_as command.now)) [] [] state
+        → Makes (I.reads inputs.old) (I.reads inputs.new) (ReadsOf (I.content inputs.old)
+        (RunMayGoOn (I.content inputs.old) (named_as command.now)) (feed_inputs (named_as command.now))
+        result) }
+{
+    let mut state = state;
+    let load = feed_of(
+        alloc,
+        inputs,
+        &mut state,
+        vrps,
+        MrtInput::Dump,
+        command.dump,
+    )?;
+    match state.settle_load() {
+        Ok(ended) => {
+            let updates = no_counts(alloc);
+            Ok((InputCounts { load, updates }, ended))
+        }
+        Err(error) => Err(outcome_of_refusal(MrtInput::Dump, error)),
+    }
+}
+
+/// Takes the dump alone, and returns the text.
 #[tactic(auto, unfolding(fib_due::specs::Due::told_at))]
-fn text_of<I: Inputs>(
+fn text_of_load<I: Inputs>(
+    alloc: Global,
+    inputs: &mut I,
+    command: &RunWords<'_>,
+    asks: &[Addr],
+    vrps: &Vrps,
+) -> Result<Vec<u8>, Outcome>
+    requires within { AreWithinLimits (CommandWords.Run command.now) }
+    requires alone { (named_as command.now).updates ≡ None }
+    requires order { command.now.steady ≡ false }
+    requires told { IsDueIfTold (vrps_at (I.content inputs.old) (named_as command.now).vrps)
+        (Ok vrps.now) }
+    ensures due { GivesDue (λ v. v.items) result
+        (with_text (told_at (I.content inputs.old) vrps.now (named_as command.now)
+        (map addr_as asks.now))) }
+    ensures stops { IfErr result (StopsIn (Run (named_as command.now))) }
+    ensures yes { IfOk result (λ text. ChecksYes text.items) }
+    ensures same { I.content inputs.new ≡ I.content inputs.old }
+    ensures cause { ReadsNames (feeds_named (I.content inputs.old) vrps.now (named_as command.now))
+        (I.faults inputs.old) (I.faults inputs.new) result }
+    ensures reads { Makes (I.reads inputs.old) (I.reads inputs.new)
+        (ReadsOf (I.content inputs.old) (RunMayGoOn (I.content inputs.old) (named_as command.now))
+        (feed_inputs (named_as command.now)) result) }
+{
+    let state = State::new(alloc, limits_of(command), command.steady);
+    let (fed, ended) = feed_load(alloc, inputs, state, vrps, command)?;
+    match write_final(alloc, ended, &fed, asks) {
+        Ok(text) => Ok(text),
+        Err(_) => Err(Outcome::NoMemory),
+    }
+}
+
+/// Takes the dump and the updates, and returns the text; the load's changes are kept beside the table meanwhile.
+#[tactic(auto, unfolding(fib_due::specs::Due::told_at))]
+fn text_of_all<I: Inputs>(
     alloc: Global,
     inputs: &mut I,
     command: &RunWords<'_>,
@@ -309,6 +397,35 @@ fn text_of<I: Inputs>(
         Ok(text) => Ok(text),
         Err(_) => Err(Outcome::NoMemory),
     }
+}
+
+/// Takes the dump and the updates, and returns the text.
+fn text_of<I: Inputs>(
+    alloc: Global,
+    inputs: &mut I,
+    command: &RunWords<'_>,
+    asks: &[Addr],
+    vrps: &Vrps,
+) -> Result<Vec<u8>, Outcome>
+    requires within { AreWithinLimits (CommandWords.Run command.now) }
+    requires told { IsDueIfTold (vrps_at (I.content inputs.old) (named_as command.now).vrps)
+        (Ok vrps.now) }
+    ensures due { GivesDue (λ v. v.items) result
+        (with_text (told_at (I.content inputs.old) vrps.now (named_as command.now)
+        (map addr_as asks.now))) }
+    ensures stops { IfErr result (StopsIn (Run (named_as command.now))) }
+    ensures yes { IfOk result (λ text. ChecksYes text.items) }
+    ensures same { I.content inputs.new ≡ I.content inputs.old }
+    ensures cause { ReadsNames (feeds_named (I.content inputs.old) vrps.now (named_as command.now))
+        (I.faults inputs.old) (I.faults inputs.new) result }
+    ensures reads { Makes (I.reads inputs.old) (I.reads inputs.new)
+        (ReadsOf (I.content inputs.old) (RunMayGoOn (I.content inputs.old) (named_as command.now))
+        (feed_inputs (named_as command.now)) result) }
+{
+    if command.updates.is_none() && !command.steady {
+        return text_of_load(alloc, inputs, command, asks, vrps);
+    }
+    text_of_all(alloc, inputs, command, asks, vrps)
 }
 
 /// What `make` asks of its inputs: snapshots now and then, and tries that have room for all that it may make.

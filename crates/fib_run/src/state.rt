@@ -10,6 +10,7 @@ ghost use Rattle.kept_model.specs.Feed.{at_event};
 ghost use Rattle.fib_run.specs.Counts.{CountsFit, CountsOn};
 ghost use Rattle.fib_run.specs.Feeds.{EventNumbered};
 ghost use Rattle.fib_due.specs.Refusals.{Limits as ends};
+ghost use Rattle.fib_run.specs.Final.{EndsAs, Settles};
 ghost use Rattle.fib_run.specs.Standing.{EndsShort, IsOfLoad, IsAtEvent, feed_of_read, refusal_at, StateStands, StateTakes, StateTakesAll};
 ghost use Rattle.fib_report.specs.Views.{moves_as};
 ghost use Rattle.fib_run.specs.Told.{changes_as, limits_as, moves_told};
@@ -18,8 +19,8 @@ ghost use Rattle.fib_run.specs.declared.state.FeedError.TheVariants.{NoMemory as
 use crate::order::{order_event, order_load};
 use fib_delta::Change;
 use fib_due::MrtInput;
-use fib_engine::{Engine, EngineError, Limits, TrieFull};
-use fib_prefix::{Addr, Elem, Entry, Event, Prefix, Via};
+use fib_engine::{Engine, EngineError, FinalFib, Limits, PackedTable, TrieFull};
+use fib_prefix::{Addr, Elem, Event, HopTable, Prefix, Via};
 use fib_report::Moves;
 use mrt_read::{Malformed, WholeError};
 use std::alloc::{AllocError, AllocFailed, Global};
@@ -86,8 +87,8 @@ impl<T: Drop> From<AllocFailed<T>> for FeedError {
 pub struct State {
     /// The candidates of all peers, the numbers of next hops, and the kept table.
     pub engine: Engine,
-    /// The entries of the kept table after the load: what the load adds to it.
-    pub added: Vec<Entry>,
+    /// The entries of the kept table after the load: what the load adds to it, in the order in which that is written.
+    pub added: PackedTable,
     /// The changes of the kept table that updates make, each with its event's number.
     pub changes: Vec<(u64, Change)>,
     /// How many changes each event of updates needed that changed a chosen hop, if the fewest are asked for.
@@ -96,6 +97,21 @@ pub struct State {
     pub fewest: bool,
     /// Whether the changes of the load and of updates come in steady order.
     pub steady: bool,
+}
+
+/// What inputs come to, once no more events come.
+#[derive(Drop)]
+pub struct FinalState {
+    /// The kept tables, and the routes that they are of.
+    pub final_fib: FinalFib,
+    /// The hops with their numbers.
+    pub hops: HopTable,
+    /// What the load added to the kept table, if updates or steady order may tell that from the table; else it is the table.
+    pub added: Option<PackedTable>,
+    /// As a `State`'s.
+    pub changes: Vec<(u64, Change)>,
+    /// As a `State`'s.
+    pub moves: Vec<Moves>,
 }
 
 /// Adds the changes of the event of this number.
@@ -141,7 +157,7 @@ impl State {
     {
         State {
             engine: Engine::new(alloc, limits),
-            added: Vec::new(alloc),
+            added: PackedTable::new(alloc),
             changes: Vec::new(alloc),
             moves: Vec::new(alloc),
             fewest: limits.fewest,
@@ -150,7 +166,7 @@ impl State {
     }
 
     /// Ends the load: the kept table is made, and its entries are what the load adds.
-    pub fn finish_load(&mut self) -> Result<(), FeedError>
+    pub fn finish_load(&mut self, alloc: Global) -> Result<(), FeedError>
         requires { IsAtEvent MrtInput.Dump 0 self.old.engine }
         ensures stands { OnOk result ((limits : ends) (load : List model_elem)
             → StateStands MrtInput.Dump limits [] load self.old
@@ -162,14 +178,49 @@ impl State {
             ≡ self.old.engine.candidates) }
         ensures ready { OnOk result (IsAtEvent MrtInput.Updates 0 self.new.engine) }
     {
-        match self.engine.finish_load() {
-            Ok(mut added) => {
-                order_load(&mut added, self.steady);
-                self.added = added;
-            }
+        match self.engine.finish_load_packed() {
+            Ok(added) => self.added = order_load(alloc, added, self.steady)?,
             Err(error) => return Err(refusal_at(LOAD, error)),
         }
         Ok(())
+    }
+
+    /// What is left to be written once no more events come: the candidates are let go.
+    pub fn settle(self) -> FinalState
+        requires { self.engine.loaded ≡ true }
+        ensures { Settles self result }
+    {
+        let (final_fib, hops) = self.engine.settle();
+        FinalState {
+            final_fib,
+            hops,
+            added: Some(self.added),
+            changes: self.changes,
+            moves: self.moves,
+        }
+    }
+
+    /// Ends the load for good, as `finish_load` and then `settle` would: no updates follow. What the load adds is the kept table
+    /// itself, so no list of it is kept, and the candidates are let go before the table is made.
+    pub fn settle_load(self) -> Result<FinalState, FeedError>
+        requires ready { IsAtEvent MrtInput.Dump 0 self.engine }
+        requires order { self.steady ≡ false }
+        ensures ends { IfOk result (λ f. (limits : ends) (load : List model_elem)
+            → StateStands MrtInput.Dump limits [] load self → EndsAs limits load f) }
+        ensures short { IfErr result (λ error. (limits : ends) (load : List model_elem)
+            → StateStands MrtInput.Dump limits [] load self → EndsShort limits load error) }
+        ensures kinds { IfErr result IsOfLoad }
+    {
+        match self.engine.settle_load() {
+            Ok((final_fib, hops)) => Ok(FinalState {
+                final_fib,
+                hops,
+                added: None,
+                changes: self.changes,
+                moves: self.moves,
+            }),
+            Err(error) => Err(refusal_at(LOAD, error)),
+        }
     }
 }
 

@@ -104,7 +104,7 @@ fn load_of<I: Inputs>(
         MrtInput::Dump,
         command.dump,
     )?;
-    if let Err(error) = state.finish_load() {
+    if let Err(error) = state.finish_load(alloc) {
         return Err(outcome_of_refusal(MrtInput::Dump, error));
     }
     let State { engine, .. } = state;

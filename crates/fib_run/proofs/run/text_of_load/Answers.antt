@@ -10,21 +10,21 @@ use Rattle.fib_due.specs.InTime.{RunMayGoOn}
 use Rattle.fib_due.specs.Passes.{feed_inputs}
 use Rattle.fib_due.proofs.Passes.{out_of_memory}
 use Rattle.fib_due.specs.declared.outcome.Which.TheVariants as which
-use Rattle.fib_run.proofs.run.text_of.Goals as goal
+use Rattle.fib_run.proofs.run.text_of_load.Goals as goal
 
 pub returns-in-Ok-clause-due : goal.returns-in-Ok-clause-due
 returns-in-Ok-clause-due g c =
     let named = named_as c.args.command.now in
     let stands = subst (λ l. StateStands Dump l [] [] c.new-state.result) c.limits_of.ensures c.new-state.ensures.stands in
     let both = c.in_ok-fed.ensures.due stands in
-    all_due _ _ named (map addr_as c.args.asks.now) printed_text both.0 _ both.2 (c.in-Ok.ensures.text (limits_of named) both.0.0 both.0.1 both.1)
+    all_due _ _ named (map addr_as c.args.asks.now) printed_text both.1.0 _ both.1.2 (c.in-Ok.ensures.text (limits_of named) both.1.0.0 both.1.0.1 both.0 both.1.1 both.2)
 
 pub returns-in-Ok-clause-yes : goal.returns-in-Ok-clause-yes
 returns-in-Ok-clause-yes g c =
     let named = named_as c.args.command.now in
     let stands = subst (λ l. StateStands Dump l [] [] c.new-state.result) c.limits_of.ensures c.new-state.ensures.stands in
     let both = c.in_ok-fed.ensures.due stands in
-    c.in-Ok.ensures.yes (limits_of named) both.0.0 both.0.1 both.1
+    c.in-Ok.ensures.yes (limits_of named) both.1.0.0 both.1.0.1 both.0 both.1.1 both.2
 
 pub returns-in_err-fed-clause-due : goal.returns-in_err-fed-clause-due
 returns-in_err-fed-clause-due g c =
