@@ -297,7 +297,7 @@ fn feed_load<I: Inputs>(
     command: &RunWords<'_>,
 ) -> Result<(InputCounts, FinalState), Outcome>
     requires alone { (named_as command.now).updates ≡ None }
-    requires order { state.steady ≡ false }
+    requires order { command.now.steady ≡ false }
     requires ready { IsAtEvent MrtInput.Dump 0 state.engine }
     requires none { state.engine.candidates ≡ [] }
     requires told { IsDueIfTold (vrps_at (I.content inputs.old) (named_as command.now).vrps)
@@ -422,10 +422,13 @@ fn text_of<I: Inputs>(
         (ReadsOf (I.content inputs.old) (RunMayGoOn (I.content inputs.old) (named_as command.now))
         (feed_inputs (named_as command.now)) result) }
 {
-    if command.updates.is_none() && !command.steady {
-        return text_of_load(alloc, inputs, command, asks, vrps);
+    if command.steady {
+        return text_of_all(alloc, inputs, command, asks, vrps);
     }
-    text_of_all(alloc, inputs, command, asks, vrps)
+    match command.updates {
+        None => text_of_load(alloc, inputs, command, asks, vrps),
+        Some(_) => text_of_all(alloc, inputs, command, asks, vrps),
+    }
 }
 
 /// What `make` asks of its inputs: snapshots now and then, and tries that have room for all that it may make.

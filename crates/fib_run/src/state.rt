@@ -201,11 +201,10 @@ impl State {
     }
 
     /// Ends the load for good, as `finish_load` and then `settle` would: no updates follow. What the load adds is the kept table
-    /// itself, so no list of it is kept, and the candidates are let go before the table is made.
+    /// itself, so no list of it is kept, and the candidates are let go before the table is made. That is not steady order.
     pub fn settle_load(self) -> Result<FinalState, FeedError>
-        requires ready { IsAtEvent MrtInput.Dump 0 self.engine }
-        requires order { self.steady ≡ false }
-        ensures ends { IfOk result (λ f. (limits : ends) (load : List model_elem)
+        requires { IsAtEvent MrtInput.Dump 0 self.engine }
+        ensures ends { IfOk result (λ f. (limits : ends) (load : List model_elem) → limits.steady ≡ false
             → StateStands MrtInput.Dump limits [] load self → EndsAs limits load f) }
         ensures short { IfErr result (λ error. (limits : ends) (load : List model_elem)
             → StateStands MrtInput.Dump limits [] load self → EndsShort limits load error) }

@@ -49,7 +49,7 @@ unfolding feed_at
 returns-in-Ok-clause-due g c = λ s.
     let named = named_as c.args.command.now in
     let load = c.in_ok-load.ensures.due (limits_of named) [] s in
-    let ends = c.in-Ok.ensures.ends (limits_of named) load.0.elems load.1.stands in
+    let ends = c.in-Ok.ensures.ends (limits_of named) load.0.elems c.requires.order load.1.stands in
     let fits = load_fits _ _ named load.0 load.2 (load_has_room (limits_of named) load.0 _ ends.1) in
     (ends.0, ((load.0, no_feed), record { counted = load.1.counted; has = record { counted = c.no_counts.ensures; stands = ends.1 } }, feeds_due _ _ named load.0 no_feed fits (rw c.requires.alone refl)), ends.2)
 
@@ -58,6 +58,6 @@ returns-in-Ok-clause-reads g c = λ s.
     let named = named_as c.args.command.now in
     let content = g.I.Inputs.content c.args.inputs.now in
     let load = c.in_ok-load.ensures.due (limits_of named) [] s in
-    let ends = c.in-Ok.ensures.ends (limits_of named) load.0.elems load.1.stands in
+    let ends = c.in-Ok.ensures.ends (limits_of named) load.0.elems c.requires.order load.1.stands in
     let fits = load_fits _ _ named load.0 load.2 (load_has_room (limits_of named) load.0 _ ends.1) in
     all_next content (RunMayGoOn content named) _ _ _ ((which.Dump, named.dump) ∷ []) (input_for which.Updates named.updates) (dump_read content named _ _ _ c.requires.told (c.in_ok-load.ensures.reads (limits_of named) [] s)) (updates_end content named _ load.0 _ _ c.requires.told fits (rw c.requires.alone (nothing_read _)))

@@ -10,15 +10,14 @@ use Rattle.fib_run.proofs.Steps.{ends_short, load_ended, of_load}
 use Rattle.fib_run.proofs.state.State.settle_load.Goals as goal
 
 pub returns-in-Ok-clause-ends : goal.returns-in-Ok-clause-ends
-returns-in-Ok-clause-ends c = λ limits load s.
+returns-in-Ok-clause-ends c = λ limits load n s.
     let old = c.args.self in
     let told = c.in-Ok.ensures in
     let e = after_load old.engine in
-    let new : State = record { engine = e; added = e.table; changes = old.changes; moves = old.moves; fewest = old.fewest; steady = old.steady } in
-    (
+    let new : State = record { engine = e; added = e.table; changes = old.changes; moves = old.moves; fewest = old.fewest; steady = old.steady } in (
       new,
       load_ended limits load old new (record { candidates = refl; hops = refl; every = refl; fewest = refl; sizes = refl; table = refl; loaded = refl; events = refl; moves = refl }) told.stands refl refl
-      (λ sorted. ap (λ b. steady_if b (additions e.table)) (sym c.requires.order)) refl refl s,
+          (λ sorted. ap (λ b. steady_if b (additions e.table)) (sym (s.steady_is ∙ n))) refl refl s,
       record {
         sizes = told.sizes;
         routes = told.routes;
