@@ -223,7 +223,7 @@ impl Engine {
     }
 
     /// The tables of the routes, before their first snapshot. If all candidates lie in the order of prefixes no list of the
-    /// routes is made.
+    /// routes is made. Marks are kept if snapshots are to come.
     fn tables_of_routes(&self) -> Result<Tables, AllocError>
         ensures { IfOk result (AreOfRoutes (engine_routes self.now)) }
     {
@@ -232,10 +232,10 @@ impl Engine {
         let v6 = candidates.family_routes(Family::V6, &self.parts.hops);
         if let (Some(v4), Some(v6)) = (v4, v6) {
             let tables = self.tables_of_families(v4, v6)?;
-            return Ok(tables);
+            return Ok(tables.marked_if(self.parts.limits.every != 0));
         }
         let tables = self.tables_of_list()?;
-        Ok(tables)
+        Ok(tables.marked_if(self.parts.limits.every != 0))
     }
 
     /// The tables of the routes of both families, as they come.

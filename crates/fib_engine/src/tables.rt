@@ -151,6 +151,16 @@ impl Tables {
         Ok(Tables { v4, v6 })
     }
 
+    /// The same tables, which keep marks of what changes, or don't, as if no snapshot is to come.
+    pub fn marked_if(self, marked: bool) -> Tables
+        ensures { result ≡ self }
+    {
+        Tables {
+            v4: self.v4.marked_if(marked),
+            v6: self.v6.marked_if(marked),
+        }
+    }
+
     /// The routes with their least tables in place of empty ones, and the entries of both, IPv4 first.
     ///
     /// # Errors

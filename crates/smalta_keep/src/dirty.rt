@@ -3,7 +3,7 @@
 //! They are entries of a tree of their own. A region that no dirty prefix is strictly within, and that is at no wide dirty prefix and within none,
 //! has the entries that a snapshot would give it under the hop that it inherits. A plan marks its prefix wide; once its repair is
 //! made the entries within the prefix are what a snapshot would give there, and the dirty prefix is wide no more. Without that tree
-//! everything counts as marked wide.
+//! everything counts as marked wide. If no snapshot is to come no marks are kept: then there is never a tree.
 
 ghost use Rattle.std.specs.Prelude.{◌≡◌, true, Some, None, OnOk, option_map};
 ghost use Rattle.std.specs.Option.{ForSome};
@@ -26,6 +26,8 @@ pub struct DirtySet {
     pub tree: Option<Tree>,
     /// How often a prefix was marked.
     count: u32,
+    /// Whether marks are kept; if not, everything counts as marked wide.
+    is_kept: bool,
 }
 
 /// Marks a prefix wide in the tree of dirty prefixes. It takes no memory if the prefix is marked.
@@ -74,6 +76,17 @@ fn mark_in(dirty: &mut Option<Tree>, prefix: &Prefix) -> Result<(), AllocError>
     }
 }
 
+/// A tree of no marks if marks are kept.
+fn no_marks(alloc: Global, family: Family, is_kept: bool) -> Option<Tree>
+    ensures { IsOfFamily family result }
+{
+    if is_kept {
+        Some(Tree::new(alloc, family))
+    } else {
+        None
+    }
+}
+
 /// Whether there is a prefix, and it is the whole space.
 pub fn is_whole(at: Option<Prefix>) -> bool
     ensures { result ≡ true → IsWholeSpace (option_map prefix_as at) }
@@ -85,13 +98,21 @@ pub fn is_whole(at: Option<Prefix>) -> bool
 }
 
 impl DirtySet {
-    /// Everything counts as marked.
+    /// Everything counts as marked. Marks are kept from the next snapshot on.
     pub fn all() -> DirtySet
+        ensures { result.tree ≡ None }
+    {
+        DirtySet::all_if(true)
+    }
+
+    /// Everything counts as marked, after a snapshot too unless marks are kept.
+    pub fn all_if(is_kept: bool) -> DirtySet
         ensures { result.tree ≡ None }
     {
         DirtySet {
             tree: None,
             count: 0,
+            is_kept,
         }
     }
 
@@ -170,11 +191,11 @@ impl DirtySet {
         }
     }
 
-    /// Nothing is marked.
+    /// Nothing is marked if marks are kept, else everything counts as marked.
     fn clear(&mut self, alloc: Global, family: Family)
         ensures { IsOfFamily family self.new.tree }
     {
-        self.tree = Some(Tree::new(alloc, family));
+        self.tree = no_marks(alloc, family, self.is_kept);
         self.count = 0;
     }
 

@@ -134,6 +134,20 @@ impl Keep {
         })
     }
 
+    /// The same routes and table, which keeps marks of what changes, or doesn't. Without them a change costs less, but its repair
+    /// goes over all regions within its prefix, and a snapshot over the whole tree: they don't pay if no snapshot is to come.
+    /// A table keeps marks unless this is said.
+    pub fn marked_if(self, marked: bool) -> Keep
+        ensures { result ≡ self }
+    {
+        Keep {
+            alloc: self.alloc,
+            tree: self.tree,
+            dirty: DirtySet::all_if(marked),
+            held: None,
+        }
+    }
+
     /// The routes with their least table in place of an empty one, and its entries. It costs the tree's nodes, while a snapshot
     /// would cost each entry's length too.
     ///
