@@ -7,7 +7,7 @@ use Rattle.std.specs.Map.{keys_of}
 use Rattle.table_model.specs.Address.{IsPrefix}
 use Rattle.table_model.specs.Width.{width}
 use Rattle.fib_addr.proofs.Parts.{length_prefix}
-use Rattle.ortc.specs.Packed.{packed_as}
+use Rattle.ortc.specs.Packed.{packed_entry_as}
 use Rattle.ortc.specs.declared.packed.PackedEntry.{PackedEntry}
 
 -- a number is made of its halves
@@ -15,7 +15,7 @@ pub halves_join : (b h l : ℕ) → h ≡ b / 2 ^ 64 → l ≡ b % 2 ^ 64 → h 
 halves_join b h l up low = ap (λ n. n * 2 ^ 64 + l) up ∙ (ap (λ n. b / 2 ^ 64 * 2 ^ 64 + n) low ∙ div-add-mod' b (2 ^ 64))
 
 -- prefixes of packed entries are prefixes
-pub packed_prefixes : (es : List PackedEntry) → AllByRecursion IsPrefix (keys_of (map packed_as es))
+pub packed_prefixes : (es : List PackedEntry) → AllByRecursion IsPrefix (keys_of (map packed_entry_as es))
 packed_prefixes [] = tt
 packed_prefixes (e ∷ es) = (omega (arith, length_prefix (width e.family) e.len (e.high * 2 ^ 64 + e.low) e.fits, e.fits), packed_prefixes es)
 

@@ -48,12 +48,12 @@ pub struct PackedEntry {
 
 impl PackedEntry {
     ghost use Rattle.fib_addr.specs.Views.{entry_as};
-    ghost use Rattle.ortc.specs.Packed.{packed_as};
+    ghost use Rattle.ortc.specs.Packed.{packed_entry_as};
 
     /// The same entry, packed.
     #[tactic(auto, using(crate::proofs::Packing::halves_join))]
     pub fn of(entry: &Entry) -> PackedEntry
-        ensures { packed_as result ≡ entry_as entry.now }
+        ensures { packed_entry_as result ≡ entry_as entry.now }
     {
         let prefix = &entry.prefix;
         PackedEntry {
@@ -67,7 +67,7 @@ impl PackedEntry {
 
     /// The entry that it packs.
     pub fn entry(&self) -> Entry
-        ensures { entry_as result ≡ packed_as self.now }
+        ensures { entry_as result ≡ packed_entry_as self.now }
     {
         let prefix = Prefix {
             bits: joined(self.high, self.low),

@@ -5,7 +5,7 @@ ghost use Rattle.std.specs.List.{AllByRecursion};
 ghost use Rattle.std.specs.Map.{keys_of};
 ghost use Rattle.table_model.specs.Address.{IsPrefix};
 ghost use Rattle.fib_addr.specs.Views.{entry_as};
-ghost use Rattle.ortc.specs.Packed.{packed_as};
+ghost use Rattle.ortc.specs.Packed.{packed_entry_as};
 
 use crate::packed::PackedEntry;
 use fib_addr::{Entry, EntrySink};
@@ -22,11 +22,11 @@ pub struct PackedTable {
 impl Model for PackedTable {
     ghost use Rattle.std.specs.Prelude.{map};
     ghost use Rattle.table_model.specs.Entries.{Entries};
-    ghost use Rattle.ortc.specs.Packed.{packed_as};
+    ghost use Rattle.ortc.specs.Packed.{packed_entry_as};
 
     ghost Value = { Entries };
 
-    ghost view = { λ t. map packed_as t.entries.items };
+    ghost view = { λ t. map packed_entry_as t.entries.items };
 }
 
 impl EntrySink for PackedTable {
@@ -50,7 +50,7 @@ impl EntrySink for PackedTable {
 fn emit_all<S: EntrySink>(entries: &[PackedEntry], out: &mut S) -> Result<(), AllocError>
     requires { S.ready out.old }
     ensures ready { OnOk result (S.ready out.new) }
-    ensures takes { OnOk result (S.takes out.old (map packed_as entries.now) out.new) }
+    ensures takes { OnOk result (S.takes out.old (map packed_entry_as entries.now) out.new) }
 {
     for entry in entries {
         out.put(entry.entry())?;
@@ -60,8 +60,8 @@ fn emit_all<S: EntrySink>(entries: &[PackedEntry], out: &mut S) -> Result<(), Al
 
 /// Packs entries.
 fn pack_all(entries: &[Entry], packed: &mut Vec<PackedEntry>) -> Result<(), AllocError>
-    ensures { OnOk result (map packed_as packed.new.items
-        ≡ map packed_as packed.old.items ++ map entry_as entries.now) }
+    ensures { OnOk result (map packed_entry_as packed.new.items
+        ≡ map packed_entry_as packed.old.items ++ map entry_as entries.now) }
 {
     packed.reserve(entries.len())?;
     for entry in entries {
@@ -139,11 +139,11 @@ pub struct PackedEntries<'a> {
 impl<'a> Model for PackedEntries<'a> {
     ghost use Rattle.std.specs.Prelude.{map};
     ghost use Rattle.table_model.specs.Entries.{Entries};
-    ghost use Rattle.ortc.specs.Packed.{packed_as};
+    ghost use Rattle.ortc.specs.Packed.{packed_entry_as};
 
     ghost Value = { Entries };
 
-    ghost view = { λ s. map packed_as s.rest.now };
+    ghost view = { λ s. map packed_entry_as s.rest.now };
 }
 
 impl<'a> EntrySource for PackedEntries<'a> {
