@@ -14,7 +14,9 @@ use crate::source::EntrySource;
 use fib_addr::{Prefix, bit_at};
 use std::alloc::AllocError;
 
-/// The half of the prefix that the first entry's prefix is within, if it is in one.
+/// The half of the prefix that the first entry's prefix is within, if it is in one. It stands apart, so that the walks that ask it
+/// at each level don't hold an entry there.
+#[inline(never)]
 pub(crate) fn next_half<S: EntrySource>(entries: &S, at: &Prefix) -> Option<bool>
     requires { at.now.len < width at.now.family }
     ensures some { IfSome result (λ b. starts_within (half_at b (prefix_as at.now))
@@ -34,7 +36,9 @@ pub(crate) fn next_half<S: EntrySource>(entries: &S, at: &Prefix) -> Option<bool
     Some(bit_at(first.prefix.bits, at.family.width() - at.len - 1))
 }
 
-/// Sets a label of a node, which stands for the prefix, if the first entry is at that prefix, and takes that entry.
+/// Sets a label of a node, which stands for the prefix, if the first entry is at that prefix, and takes that entry. It
+/// stands apart, so that the walk doesn't hold an entry at each level.
+#[inline(never)]
 fn merge_own<S: EntrySource>(
     nodes: &mut Nodes,
     i: usize,
