@@ -1,5 +1,5 @@
 -- The pass of a snapshot.
-use Rattle.std.proofs.Common.{◌≡◌, ◌+◌, ℕ, zero, suc, List, [], ◌∷◌, ◌++◌, ◌||◌, Bool, true, false, Option, Some, None, length, map, refl, sym, ap, subst, ◌∙◌, arith, append_assoc, append-nil}
+use Rattle.std.proofs.Common.{◌≡◌, ◌≢◌, ◌+◌, ◌-◌, ℕ, zero, suc, List, [], ◌∷◌, ◌++◌, ◌||◌, Bool, true, false, Option, Some, None, length, map, refl, sym, ap, subst, ◌∙◌, arith, append_assoc, append-nil}
 use Rattle.std.specs.Prelude.{is_some, IfSome}
 use Rattle.std.specs.Option.{option_to_list}
 use Rattle.table_model.specs.Address.{Prefix}
@@ -19,7 +19,7 @@ use Rattle.kept_model.specs.Parts.{BothOrNeither, ArePart, HasNoHalves}
 use Rattle.kept_model.proofs.Again.{agg_same, agg_half}
 use Rattle.kept_model.proofs.Settling.{settled_half, settled_clean}
 use Rattle.kept_model.proofs.Parting.{part_none, part_here, part_join, end_no_bit}
-use Rattle.fib_addr.specs.Views.{prefix_as, entry_as}
+use Rattle.fib_addr.specs.Views.{entry_as}
 use Rattle.fib_addr.specs.declared.prefix.Prefix as code
 use Rattle.orig_tree.specs.Spots.{Spot, spot_answers}
 use Rattle.orig_tree.specs.Walk.{behind}
@@ -29,9 +29,9 @@ use Rattle.ortc.proofs.Falling.{leaf_agg}
 use Rattle.smalta_keep.specs.declared.place.Place.{Place}
 use Rattle.smalta_keep.specs.declared.place.Rerouted.{Rerouted}
 use Rattle.smalta_keep.specs.declared.place.Rerouted.TheVariants.{Nowhere, Here, Above}
-use Rattle.smalta_keep.specs.Places.{half_rerouted, IsSheltered, IsClear, IsBefore, IsSettledPlace, IsPassPlace}
+use Rattle.smalta_keep.specs.Places.{half_rerouted, IsSheltered, IsClear, IsHalfClear, IsBefore, IsSettledPlace, IsPassPlace, IsPassHalf}
 use Rattle.smalta_keep.specs.declared.pass.Differing.{Differing}
-use Rattle.smalta_keep.specs.Passes.{IsPass}
+use Rattle.smalta_keep.specs.Passes.{IsPass, IsHalfPass}
 
 none_at : (q : List Bool) → entry_at q [] ≡ None
 none_at q = ap root (cut_nil q)
@@ -130,6 +130,35 @@ pass_nothing p q h g out x o e = record {
   part = part_none p.region.entries (agg p.region.bits (spot_answers p.region) p.region.entries g) (subst (λ (k : ℕ). Stays p.region.bits (spot_answers p.region) p.region.entries k) e (clear_stays p h x o));
 }
 
+-- a half that is left out
+pub half_left : (p : Place) (b : Bool) (q : Prefix) (h g : ℕ) (out : Differing) → p.region.bits ≢ 0 → IsPassHalf p h → IsHalfClear b p → h ≡ g → IsHalfPass b q p.region g out out
+half_left p b q h g out n x o e = record {
+  spot = s;
+  bits = bits;
+  routes = refl;
+  entries = refl;
+  hop = refl;
+  pass = pass_nothing r (half_at b q) h g out (place_half p r b x.above h x.place bits refl refl refl refl refl refl (sym o.within) (sym (ap half_rerouted o.nowhere)) x.below) clear e;
+}
+  where
+    s : Spot
+    s = record { bits = p.region.bits - 1; routes = half b p.region.routes; entries = half b p.region.entries; nodes = []; hop = inherit (root p.region.routes) p.region.hop }
+
+    bits : suc s.bits ≡ p.region.bits
+    bits = omega (arith, n)
+
+    r : Place
+    r = record {
+      region = s;
+      node = Some (record { routes = half b (behind p.node).routes; entries = half b (behind p.node).entries; nodes = [] });
+      dirty = Some (record { routes = []; entries = half b (behind p.dirty).entries; nodes = [] });
+      marked = false;
+      rerouted = Nowhere;
+    }
+
+    clear : IsClear r
+    clear = record { within = refl; dirty = record { wide = ap (λ (T : Table). is_wide_mark (root T)) o.dirty; below = λ c. ap (half c) o.dirty }; sheltered = tt }
+
 own_both : (s : Spot) (g : ℕ) (had gets o n : Option ℕ) → had ≡ root s.entries → gets ≡ own (set_of s.bits (spot_answers s)) (root s.entries) g → BothOrNeither had gets o n → BothOrNeither (root s.entries) (root (agg s.bits (spot_answers s) s.entries g)) o n
 own_both s g had gets o n e f x =
     subst (λ (a : Option ℕ). BothOrNeither a (root (agg s.bits (spot_answers s) s.entries g)) o n) e (subst (λ (b : Option ℕ). BothOrNeither had b o n) (f ∙ sym (agg_root s.bits (spot_answers s) s.entries g)) x)
@@ -148,21 +177,19 @@ pass_end s q g had gets o n before after end e f x y z = record {
 }
 
 -- and one of two halves
-three_lists : (p : Prefix) (q r : code.Prefix) (o : Option ℕ) (A B : Table) (X Y Z W : Entries) → prefix_as q ≡ half_at false p → prefix_as r ≡ half_at true p → Y ≡ X ++ map (λ k. (p, k)) (option_to_list o)
-    → Z ≡ Y ++ of_table q.family (lift (prefix_as q).bits A) → W ≡ Z ++ of_table r.family (lift (prefix_as r).bits B) → W ≡ X ++ of_table p.family (lift p.bits (join o A B))
-three_lists p q r o A B X Y Z W e f y z w =
+three_lists : (p : Prefix) (o : Option ℕ) (A B : Table) (X Y Z W : Entries) → Y ≡ X ++ map (λ k. (p, k)) (option_to_list o)
+    → Z ≡ Y ++ of_table p.family (lift (half_at false p).bits A) → W ≡ Z ++ of_table p.family (lift (half_at true p).bits B) → W ≡ X ++ of_table p.family (lift p.bits (join o A B))
+three_lists p o A B X Y Z W y z w =
     let m = p.family in
     let P = p.bits in
     let O = of_table m (lift P (here o)) in
     let C = of_table m (lift (P ++ (false ∷ [])) A) in
     let D = of_table m (lift (P ++ (true ∷ [])) B) in
-    let z' : Z ≡ Y ++ C = z ∙ ap (λ (x : Prefix). Y ++ of_table x.family (lift x.bits A)) e in
-    let w' : W ≡ Z ++ D = w ∙ ap (λ (x : Prefix). Z ++ of_table x.family (lift x.bits B)) f in
     let whole : of_table m (lift P (join o A B)) ≡ O ++ (C ++ D) =
     ap (of_table m) (telling.lift_join P o A B) ∙ (telling.seen_append m (lift P (here o)) (lift (P ++ (false ∷ [])) A ++ lift (P ++ (true ∷ [])) B)
     ∙ ap (λ x. O ++ x) (telling.seen_append m (lift (P ++ (false ∷ [])) A) (lift (P ++ (true ∷ [])) B)))
     in
-    w' ∙ (ap (λ x. x ++ D) (z' ∙ ap (λ x. x ++ C) (y ∙ ap (λ x. X ++ x) (telling.told_own p o))) ∙ (append_assoc (X ++ O) C D ∙ (append_assoc X O (C ++ D) ∙ ap (λ x. X ++ x) (sym whole))))
+    w ∙ (ap (λ x. x ++ D) (z ∙ ap (λ x. x ++ C) (y ∙ ap (λ x. X ++ x) (telling.told_own p o))) ∙ (append_assoc (X ++ O) C D ∙ (append_assoc X O (C ++ D) ∙ ap (λ x. X ++ x) (sym whole))))
 
 half_part : (s t : Spot) (b : Bool) (g k : ℕ) (gets : Option ℕ) (O N : Table) → suc t.bits ≡ s.bits → t.routes ≡ half b s.routes → t.entries ≡ half b s.entries → t.hop ≡ inherit (root s.routes) s.hop → gets ≡ own (set_of s.bits (spot_answers s)) (root s.entries) g → k ≡ inherit gets g
     → ArePart t.entries (agg t.bits (spot_answers t) t.entries k) O N → ArePart (half b s.entries) (half b (agg s.bits (spot_answers s) s.entries g)) O N
@@ -179,24 +206,23 @@ half_part s t b g k gets O N n r l h f i x =
     down : (P : ℕ → Table) (Q : ℕ → Option ℕ) → suc t.bits ≡ s.bits → agg t.bits (side b (spot_answers s)) (half b s.entries) (inherit (root (agg s.bits (spot_answers s) s.entries g)) g) ≡ half b (agg s.bits (spot_answers s) s.entries g)
     down P Q e = subst (λ (d : ℕ). agg t.bits (side b (spot_answers s)) (half b s.entries) (inherit (root (agg d (spot_answers s) s.entries g)) g) ≡ half b (agg d (spot_answers s) s.entries g)) e (sym (agg_half b t.bits (spot_answers s) s.entries g))
 
-module _ (p : Prefix) (q r : code.Prefix) (s low high : Spot) (g k : ℕ) (had gets o n : Option ℕ) (a b c d : Differing) (e : had ≡ root s.entries) (f : gets ≡ own (set_of s.bits (spot_answers s)) (root s.entries) g) (i : k ≡ inherit gets g) (x : BothOrNeither had gets o n)
+module _ (p : Prefix) (s : Spot) (g k : ℕ) (had gets o n : Option ℕ) (a b c d : Differing) (e : had ≡ root s.entries) (f : gets ≡ own (set_of s.bits (spot_answers s)) (root s.entries) g) (i : k ≡ inherit gets g) (x : BothOrNeither had gets o n)
     (y : map entry_as b.had.items ≡ map entry_as a.had.items ++ map (λ k. (p, k)) (option_to_list o)) (z : map entry_as b.gets.items ≡ map entry_as a.gets.items ++ map (λ k. (p, k)) (option_to_list n))
-    (ln : suc low.bits ≡ s.bits) (lr : low.routes ≡ half false s.routes) (le : low.entries ≡ half false s.entries) (lh : low.hop ≡ inherit (root s.routes) s.hop)
-    (hn : suc high.bits ≡ s.bits) (hr : high.routes ≡ half true s.routes) (he : high.entries ≡ half true s.entries) (hh : high.hop ≡ inherit (root s.routes) s.hop)
-    (eq : prefix_as q ≡ half_at false p) (er : prefix_as r ≡ half_at true p) (v : IsPass (prefix_as q) low k b c) (w : IsPass (prefix_as r) high k c d) where
+    (low : IsHalfPass false p s k b c) (high : IsHalfPass true p s k c d) where
   pub pass_join : IsPass p s g a d
-  pass_join = record {
-    had = join o v.had w.had;
-    gets = join n v.gets w.gets;
-    old = three_lists p q r o v.had w.had (map entry_as a.had.items) (map entry_as b.had.items) (map entry_as c.had.items) (map entry_as d.had.items) eq er y v.old w.old;
-    new = three_lists p q r n v.gets w.gets (map entry_as a.gets.items) (map entry_as b.gets.items) (map entry_as c.gets.items) (map entry_as d.gets.items) eq er z v.new w.new;
-    had_table = subst (λ (m : ℕ). IsTable m (join o v.had w.had)) ln (table_join o low.bits v.had w.had v.had_table (subst (λ (m : ℕ). IsTable m w.had) same w.had_table));
-    gets_table = subst (λ (m : ℕ). IsTable m (join n v.gets w.gets)) ln (table_join n low.bits v.gets w.gets v.gets_table (subst (λ (m : ℕ). IsTable m w.gets) same w.gets_table));
-    part = part_join s.entries (agg s.bits (spot_answers s) s.entries g) o n v.had v.gets w.had w.gets (own_both s g had gets o n e f x) (half_part s low false g k gets v.had v.gets ln lr le lh f i v.part) (half_part s high true g k gets w.had w.gets hn hr he hh f i w.part);
-  }
-    where
-      same : high.bits ≡ low.bits
-      same = omega (arith, ln, hn)
+  pass_join =
+      let v = low.pass in
+      let w = high.pass in
+      let same : high.spot.bits ≡ low.spot.bits = omega (arith, low.bits, high.bits) in
+      record {
+        had = join o v.had w.had;
+        gets = join n v.gets w.gets;
+        old = three_lists p o v.had w.had (map entry_as a.had.items) (map entry_as b.had.items) (map entry_as c.had.items) (map entry_as d.had.items) y v.old w.old;
+        new = three_lists p n v.gets w.gets (map entry_as a.gets.items) (map entry_as b.gets.items) (map entry_as c.gets.items) (map entry_as d.gets.items) z v.new w.new;
+        had_table = subst (λ (m : ℕ). IsTable m (join o v.had w.had)) low.bits (table_join o low.spot.bits v.had w.had v.had_table (subst (λ (m : ℕ). IsTable m w.had) same w.had_table));
+        gets_table = subst (λ (m : ℕ). IsTable m (join n v.gets w.gets)) low.bits (table_join n low.spot.bits v.gets w.gets v.gets_table (subst (λ (m : ℕ). IsTable m w.gets) same w.gets_table));
+        part = part_join s.entries (agg s.bits (spot_answers s) s.entries g) o n v.had v.gets w.had w.gets (own_both s g had gets o n e f x) (half_part s low.spot false g k gets v.had v.gets low.bits low.routes low.entries low.hop f i v.part) (half_part s high.spot true g k gets w.had w.gets high.bits high.routes high.entries high.hop f i w.part);
+      }
 
 -- ---- ends
 

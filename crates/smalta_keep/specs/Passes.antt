@@ -1,10 +1,11 @@
 -- What a snapshot's pass lists of a region, and of the whole table.
-use Rattle.std.specs.Prelude.{◌≡◌, ℕ, [], ◌++◌, map, Option, Some, None}
+use Rattle.std.specs.Prelude.{◌≡◌, ℕ, suc, Bool, [], ◌++◌, map, Option, Some, None}
 use Rattle.std.specs.List.{AllByRecursion}
 use Rattle.std.specs.Map.{keys_of}
 use Rattle.table_model.specs.Address.{Prefix}
 use Rattle.table_model.specs.Width.{width}
-use Rattle.table_model.specs.Table.{Table, IsTable}
+use Rattle.table_model.specs.Halves.{half_at}
+use Rattle.table_model.specs.Table.{Table, IsTable, root, half, inherit}
 use Rattle.table_model.specs.Entries.{of_family, of_table}
 use Rattle.table_model.specs.Regions.{lift}
 use Rattle.table_model.specs.Sets.{agg, answers}
@@ -26,6 +27,15 @@ pub record IsPass (p : Prefix) (s : Spot) (h : ℕ) (before after : Differing) :
   pub had_table : IsTable s.bits had
   pub gets_table : IsTable s.bits gets
   pub part : ArePart s.entries (agg s.bits (spot_answers s) s.entries h) had gets
+
+-- the same of the half of a region, which inherits the hop h from what it would get
+pub record IsHalfPass (b : Bool) (p : Prefix) (s : Spot) (h : ℕ) (before after : Differing) : Type 0 where
+  pub spot : Spot
+  pub bits : suc spot.bits ≡ s.bits
+  pub routes : spot.routes ≡ half b s.routes
+  pub entries : spot.entries ≡ half b s.entries
+  pub hop : spot.hop ≡ inherit (root s.routes) s.hop
+  pub pass : IsPass (half_at b p) spot h before after
 
 -- the node of the whole tree of dirty prefixes
 abbrev pub IsRootOf : Option Labels → Option Walks → Type 0

@@ -1,6 +1,6 @@
 -- Regions on the way down.
-use Rattle.std.specs.Prelude.{◌≡◌, ℕ, List, [], ◌∷◌, Bool, true, false, is_some}
-use Rattle.table_model.specs.Table.{Table, IsTable, lpm, root, half}
+use Rattle.std.specs.Prelude.{◌≡◌, ◌||◌, ℕ, List, [], ◌∷◌, Bool, true, false, is_some}
+use Rattle.table_model.specs.Table.{Table, IsTable, lpm, root, half, inherit}
 use Rattle.kept_model.specs.Stays.{Settled, is_wide_mark}
 use Rattle.orig_tree.specs.Spots.{Spot, spot_answers}
 use Rattle.orig_tree.specs.Walk.{behind}
@@ -48,3 +48,15 @@ pub record IsPassPlace (p : Place) (h : ℕ) : Type 0 where
   pub node : (behind p.node).entries ≡ p.region.entries
   pub table : IsTable p.region.bits p.region.entries
   pub known : p.marked ≡ false → IsSettledPlace p h
+
+-- the half of the place has no dirty prefix, and gets what it got from the routes
+pub record IsHalfClear (b : Bool) (p : Place) : Type 0 where
+  pub within : (p.marked || is_wide_mark (root (behind p.dirty).entries)) ≡ false
+  pub dirty : half b (behind p.dirty).entries ≡ []
+  pub nowhere : p.rerouted ≡ Nowhere
+
+-- the same as `IsPassPlace` of a place whose halves inherit the hop h in the table
+pub record IsPassHalf (p : Place) (h : ℕ) : Type 0 where
+  pub above : ℕ
+  pub place : IsPassPlace p above
+  pub below : h ≡ inherit (root p.region.entries) above

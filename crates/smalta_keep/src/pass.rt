@@ -4,7 +4,7 @@
 //! where these differ. It leaves out a region that is off the dirty prefixes, gets from the routes what it got, and inherits the hop that it
 //! inherits in the table.
 
-ghost use Rattle.std.specs.Prelude.{◌≡◌, ◌+◌, map, IfOk, OnOk};
+ghost use Rattle.std.specs.Prelude.{◌≡◌, ◌≢◌, ◌+◌, map, IfOk, OnOk};
 ghost use Rattle.table_model.specs.Both.{aggregate_in};
 ghost use Rattle.std.specs.List.{AllByRecursion};
 ghost use Rattle.kept_model.specs.Between.{between, place_of};
@@ -15,8 +15,8 @@ ghost use Rattle.kept_model.specs.Parts.{BothOrNeither};
 ghost use Rattle.fib_addr.specs.Views.{prefix_as};
 ghost use Rattle.orig_tree.specs.Views.{InPlace};
 ghost use Rattle.smalta_keep.specs.KnownBelow.{IsKnown, IsKnownBefore};
-ghost use Rattle.smalta_keep.specs.Places.{IsPassPlace};
-ghost use Rattle.smalta_keep.specs.Passes.{IsPass, IsRootOf, AreWhole, IsRepair};
+ghost use Rattle.smalta_keep.specs.Places.{IsPassPlace, IsPassHalf};
+ghost use Rattle.smalta_keep.specs.Passes.{IsPass, IsHalfPass, IsRootOf, AreWhole, IsRepair};
 
 use crate::place::{Place, Rerouted, seek, walk_to};
 use fib_addr::{Entry, Hop, Prefix, push_entry};
@@ -56,6 +56,7 @@ fn below(label: Option<u16>, inherited: u16) -> u16
 }
 
 /// The entries of the region of a prefix where they differ, after those that there are.
+#[cycle(list_differing)]
 fn list_differing(
     place: &Place<'_>,
     prefix: Prefix,
@@ -81,8 +82,31 @@ fn list_differing(
         had: below(had, inherited.had),
         gets: below(gets, inherited.gets),
     };
-    list_differing(&place.half(false), prefix.half(false), inherited, out)?;
-    list_differing(&place.half(true), prefix.half(true), inherited, out)?;
+    list_half(place, false, prefix, inherited, out)?;
+    list_half(place, true, prefix, inherited, out)?;
+    Ok(())
+}
+
+/// The same of one half of the region, with what the half inherits. A half that is off the dirty prefixes isn't looked at.
+#[cycle(list_differing)]
+#[inline(always)]
+fn list_half(
+    place: &Place<'_>,
+    bit: bool,
+    prefix: Prefix,
+    inherited: Inherited,
+    out: &mut Differing,
+) -> Result<(), AllocError>
+    requires bits { place.now.region.bits + prefix.len ≡ width prefix.family }
+    requires more { place.now.region.bits ≢ 0 }
+    requires place { IsPassHalf place.now inherited.had }
+    ensures { OnOk result (IsHalfPass bit (prefix_as prefix) place.now.region inherited.gets
+        out.old out.new) }
+{
+    if inherited.had == inherited.gets && place.is_half_clear(bit) {
+        return Ok(());
+    }
+    list_differing(&place.half(bit), prefix.half(bit), inherited, out)?;
     Ok(())
 }
 

@@ -11,7 +11,7 @@ ghost use Rattle.kept_model.specs.Parts.{HasNoHalves};
 ghost use Rattle.kept_model.specs.Stays.{is_wide_mark, NoneAround};
 ghost use Rattle.orig_tree.specs.Spots.{spot_answers};
 ghost use Rattle.orig_tree.specs.Walk.{behind};
-ghost use Rattle.smalta_keep.specs.Places.{half_rerouted, IsSheltered, IsUnmarked, IsClear};
+ghost use Rattle.smalta_keep.specs.Places.{half_rerouted, IsSheltered, IsUnmarked, IsClear, IsHalfClear};
 
 use fib_addr::{Prefix, bit_at};
 use orig_tree::{Label, NodeRef, Tree, TreeRegion, path_bits};
@@ -285,6 +285,22 @@ impl<'a> Place<'a> {
             return false;
         }
         self.is_sheltered()
+    }
+
+    /// Whether a half has no dirty prefix, and gets the hops from the routes that it got: then the pass gives what it has, under the
+    /// hop that it inherits in the table. It is asked of the region, without a step to the half.
+    pub fn is_half_clear(&self, bit: bool) -> bool
+        ensures { result ≡ true → IsHalfClear bit self.now }
+    {
+        match self.rerouted {
+            Rerouted::Nowhere => {
+                if meets_wide(&self.dirty, self.marked) {
+                    return false;
+                }
+                lacks(&self.dirty, bit)
+            }
+            _ => false,
+        }
     }
 
     /// Whether neither table has entries below the region's own.
