@@ -144,36 +144,26 @@ fn emit_added<S: EntrySink>(
     }
 }
 
-/// Writes what the load added.
-fn write_added<'a>(
-    final_fib: &FinalFib,
-    added: &Option<PackedTable>,
-    text: RunText<'a>,
-) -> Result<RunText<'a>, AllocError>
-    requires { IsReady text }
-    ensures { IfOk result (λ t. WritesRows text.entry t (map (of_change (text_hops text.entry))
-        (at_event 0 (additions (load_added added.now final_fib.now.table))))) }
-{
-    let mut rows = text.section(Section::Added);
-    emit_added(final_fib, added, &mut rows)?;
-    Ok(rows.end().0)
-}
-
-/// Writes the changes of the load and those of updates, which are let go then.
-fn write_changes<'a>(
+/// Writes the changes of the load and those of updates, which are let go then. A list of the former is made here alone, while the text
+/// is short.
+fn write_changes(
+    alloc: Global,
     final_fib: &FinalFib,
     added: Option<PackedTable>,
     changes: Vec<(u64, Change)>,
-    text: RunText<'a>,
-) -> Result<RunText<'a>, AllocError>
-    requires { IsReady text }
-    ensures { IfOk result (λ t. WritesRows text.entry t (map (of_change (text_hops text.entry))
+    text: &mut RunText<'_>,
+) -> Result<(), AllocError>
+    requires { IsReady text.old }
+    ensures { OnOk result (WritesRows text.old text.new (map (of_change (text_hops text.old))
         (at_event 0 (additions (load_added added final_fib.now.table)) ++ changes_as changes.items))) }
 {
-    let mut text = write_added(final_fib, &added, text)?;
+    let mut list = Vec::new(alloc);
+    emit_added(final_fib, &added, &mut list)?;
     drop(added);
+    text.entries(Section::Added, &list)?;
+    drop(list);
     text.changes(&changes)?;
-    Ok(text)
+    Ok(())
 }
 
 /// Writes how many changes each event needed, if that is asked for. The list is let go then.
@@ -186,25 +176,25 @@ fn write_moves(moves: Vec<Moves>, text: &mut RunText<'_>) -> Result<(), AllocErr
 
 /// Writes what events brought: the announcements that are Invalid, the changes, and how many changes each event needed. The lists are let
 /// go then.
-fn write_events<'a>(
+fn write_events(
+    alloc: Global,
     fed: &InputCounts,
     final_fib: &FinalFib,
     added: Option<PackedTable>,
     changes: Vec<(u64, Change)>,
     moves: Vec<Moves>,
-    text: RunText<'a>,
-) -> Result<RunText<'a>, AllocError>
-    requires { IsReady text }
-    ensures { IfOk result (λ t. WritesEvents text.entry t (map of_invalid
+    text: &mut RunText<'_>,
+) -> Result<(), AllocError>
+    requires { IsReady text.old }
+    ensures { OnOk result (WritesEvents text.old text.new (map of_invalid
         (map invalid_as fed.now.load.invalid.items ++ map invalid_as fed.now.updates.invalid.items))
         (at_event 0 (additions (load_added added final_fib.now.table)) ++ changes_as changes.items)
         (map of_moves (map moves_as moves.items))) }
 {
-    let mut text = text;
-    write_invalid(fed, &mut text)?;
-    let mut text = write_changes(final_fib, added, changes, text)?;
-    write_moves(moves, &mut text)?;
-    Ok(text)
+    write_invalid(fed, text)?;
+    write_changes(alloc, final_fib, added, changes, text)?;
+    write_moves(moves, text)?;
+    Ok(())
 }
 
 /// Writes each address with its answer.
@@ -307,8 +297,8 @@ pub fn write_final(
     } = ended;
     let needs = final_fib.needs();
     let text = RunText::new(alloc, &hops);
-    let (text, routes) = write_routes(&final_fib, text)?;
-    let mut text = write_events(fed, &final_fib, added, changes, moves, text)?;
+    let (mut text, routes) = write_routes(&final_fib, text)?;
+    write_events(alloc, fed, &final_fib, added, changes, moves, &mut text)?;
     write_answers(alloc, &final_fib, asks, &mut text)?;
     let (mut text, entries) = write_tables(final_fib, text)?;
     text.report(&totals(fed, routes, entries, &needs))?;

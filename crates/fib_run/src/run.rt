@@ -333,7 +333,8 @@ fn feed_load<I: Inputs>(
     }
 }
 
-/// Takes the dump alone, and returns the text.
+/// Takes the dump alone, and returns the text. It stands apart from `text_of_all`, so that the room of both isn't taken at once.
+#[inline(never)]
 #[tactic(auto, unfolding(fib_due::specs::Due::told_at))]
 fn text_of_load<I: Inputs>(
     alloc: Global,
@@ -368,6 +369,7 @@ fn text_of_load<I: Inputs>(
 }
 
 /// Takes the dump and the updates, and returns the text; the load's changes are kept beside the table meanwhile.
+#[inline(never)]
 #[tactic(auto, unfolding(fib_due::specs::Due::told_at))]
 fn text_of_all<I: Inputs>(
     alloc: Global,

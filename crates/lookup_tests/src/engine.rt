@@ -2,9 +2,9 @@
 
 ghost use Rattle.std.specs.Prelude.{◌≡◌, ◌≤◌, false, true, IfOk, OnOk};
 
-use crate::keep::{LOWER, Move, Net, UPPER, WHOLE, are_moves, prefix};
+use crate::keep::{LOWER, Move, Net, UPPER, WHOLE, are_entries, are_moves, prefix};
 use fib_engine::{Engine, EngineError, Limits, Sizes};
-use fib_prefix::{Addr, Elem, Hop, Peer, Via};
+use fib_prefix::{Addr, Elem, Entry, Hop, Peer, Via};
 use std::alloc::{AllocError, Global};
 
 /// Routes of one peer by the numbers of their hops, which the load has; then an event that brings one or ends it. The event's changes,
@@ -134,14 +134,14 @@ pub fn load(engine: &mut Engine, routes: &[(Net, u16)]) -> Result<(), EngineErro
     Ok(())
 }
 
-/// An engine whose load has ended.
-fn loaded(
+/// An engine whose load goes on.
+fn loading(
     alloc: Global,
     every: u32,
     fewest: bool,
     routes: &[(Net, u16)],
 ) -> Result<Engine, EngineError>
-    ensures loaded { IfOk result (λ e. e.loaded ≡ true) }
+    ensures loading { IfOk result (λ e. e.loaded ≡ false) }
     ensures events { IfOk result (λ e. e.events ≡ 0) }
 {
     let sizes = Sizes {
@@ -158,8 +158,56 @@ fn loaded(
         },
     );
     load(&mut engine, routes)?;
+    Ok(engine)
+}
+
+/// An engine whose load has ended.
+fn loaded(
+    alloc: Global,
+    every: u32,
+    fewest: bool,
+    routes: &[(Net, u16)],
+) -> Result<Engine, EngineError>
+    ensures loaded { IfOk result (λ e. e.loaded ≡ true) }
+    ensures events { IfOk result (λ e. e.events ≡ 0) }
+{
+    let mut engine = loading(alloc, every, fewest, routes)?;
     engine.finish_load()?;
     Ok(engine)
+}
+
+/// How a load ends.
+#[derive(Clone, Copy, Debug)]
+enum LoadEnd {
+    Listed,
+    Packed,
+    ForGood,
+}
+
+/// The entries of the table that a load of these routes gives.
+fn table_of(alloc: Global, end: LoadEnd, routes: &[(Net, u16)]) -> Result<Vec<Entry>, EngineError> {
+    let mut engine = loading(alloc, 0, false, routes)?;
+    let mut table = Vec::new(alloc);
+    match end {
+        LoadEnd::Listed => return engine.finish_load(),
+        LoadEnd::Packed => engine.finish_load_packed()?.emit(&mut table)?,
+        LoadEnd::ForGood => {
+            let (fib, _hops) = engine.settle_load()?;
+            fib.emit_table(&mut table)?;
+        }
+    }
+    Ok(table)
+}
+
+#[test]
+fn each_end_of_a_load_gives_the_least_table(rt: HostRuntime) -> Result<(), EngineError> {
+    for end in [LoadEnd::Listed, LoadEnd::Packed, LoadEnd::ForGood] {
+        let table = table_of(rt.alloc(), end, HALVES)?;
+        assert!(rt; are_entries(&table, &[(WHOLE, 2)]), "{end:?}");
+        let table = table_of(rt.alloc(), end, QUARTERS)?;
+        assert!(rt; are_entries(&table, QUARTERS), "{end:?}");
+    }
+    Ok(())
 }
 
 /// Whether the event comes to what is due, and the same event once more changes no chosen hop.

@@ -96,7 +96,7 @@ pub fn are_moves(changes: &[Change], due: &[Move]) -> bool {
 }
 
 /// Whether the entries are these.
-fn are_entries(entries: &[Entry], due: &[(Net, u16)]) -> bool {
+pub fn are_entries(entries: &[Entry], due: &[(Net, u16)]) -> bool {
     entries.len() == due.len()
         && entries.iter().zip(due).all(|(entry, (net, hop))| entry.prefix == prefix(*net)
             && entry.hop == Hop(*hop))
