@@ -1,6 +1,6 @@
 //! What the inputs bring: candidates, the numbers of next hops, and the kept table with its changes.
 
-ghost use Rattle.std.specs.Prelude.{◌≡◌, ◌≤◌, ◌<◌, ◌+◌, ◌-◌, ◌^◌, ◌++◌, ◌∷◌, [], ℕ, List, length, map, IfErr, IfOk, IfSome, OnOk};
+ghost use Rattle.std.specs.Prelude.{◌≡◌, ◌≤◌, ◌<◌, ◌+◌, ◌-◌, ◌^◌, ◌++◌, ◌∷◌, [], ℕ, List, length, map, IfErr, IfOk, IfSome, OnOk, false, true};
 ghost use Rattle.fib_delta.specs.Views.{change_as};
 ghost use Rattle.fib_prefix.specs.Views.{elem_as, event_as};
 ghost use Rattle.fib_prefix.specs.declared.event.Elem.TheVariants.{Put};
@@ -179,7 +179,10 @@ impl State {
         ensures ready { OnOk result (IsAtEvent MrtInput.Updates 0 self.new.engine) }
     {
         match self.engine.finish_load_packed() {
-            Ok(added) => self.added = order_load(alloc, added, self.steady)?,
+            Ok(packed) => {
+                let added = order_load(alloc, packed, self.steady)?;
+                self.added = added;
+            }
             Err(error) => return Err(refusal_at(LOAD, error)),
         }
         Ok(())

@@ -2,7 +2,6 @@ use Rattle.std.proofs.Common.{◌+◌, ◌++◌, ◌∷◌, [], refl, sym, ap, m
 use Rattle.table_model.specs.Changes.{additions}
 use Rattle.kept_model.specs.Feed.{at_event, hops_after}
 use Rattle.moves_model.specs.Moved.{moved_by, table_by}
-use Rattle.fib_addr.specs.Views.{entry_as}
 use Rattle.fib_delta.specs.Views.{change_as}
 use Rattle.fib_prefix.specs.Views.{elem_as}
 use Rattle.fib_run.specs.Told.{changes_as, moves_told, told_moves}
@@ -26,7 +25,7 @@ returns-in_ok-push_moves-in-Ok-apply-clause-takes c =
     let kept = table_by old.engine.fewest old.engine.every hops (old.engine.events + 1) old.engine.candidates old.engine.table elem in
     let ordered = c.order_event.ensures.told old.engine.table moved kept (ap (map change_as) c.deref_mut.ensures.value ∙ told.changes) (sym told.first) in
     let whole = all_changed c.in-Ok-apply.told.changes.len c.order_event.new.changes c.in-Ok-apply.told.changes.items (c.order_event.ensures.same ∙ c.deref_mut.ensures.len) in
-    let load = at_event 0 (additions (map entry_as old.added.items)) in
+    let load = at_event 0 (additions old.added) in
     let grown = ap (λ cs. load ++ cs) c.in_ok-push_changes-in-Ok-apply.ensures ∙ sym (append_assoc load (changes_as old.changes.items) _) in
     let counted = c.in_ok-push_moves-in-Ok-apply.ensures ∙ ap (λ m. told_moves old ++ moves_told old.fewest c.args.event m) c.last_moves-moves.ensures in
     rw c.in-Updates.is (takes_one _ elem old _ _ told.takes told.stands (took_it c.in-Ok-apply.told _ old told.full.1) told.fits refl refl (ap (map change_as) (c.deref.ensures.value ∙ whole) ∙ ordered) grown counted)

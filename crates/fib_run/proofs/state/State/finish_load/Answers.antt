@@ -11,8 +11,8 @@ use Rattle.fib_run.proofs.state.State.finish_load.Goals as goal
 pub returns-clause-stands : goal.returns-clause-stands
 returns-clause-stands c = λ limits load s.
     let told = c.in-Ok.ensures in
-    let there : IsStrictlySortedBy prefix_cmp (keys_of c.finish_load_packed.new.self.table) → additions c.in_ok-order_load.order_load ≡ steady_if c.args.self.now.steady (additions c.finish_load_packed.new.self.table) =
-    λ sorted. c.in_ok-order_load.ensures (subst (λ (L : Entries). IsStrictlySortedBy prefix_cmp (keys_of L)) (sym told.entries) sorted) ∙ ap (λ (L : Entries). steady_if c.args.self.now.steady (additions L)) told.entries
+    let there : IsStrictlySortedBy prefix_cmp (keys_of c.finish_load_packed.new.self.table) → additions c.in_ok-added-in-Ok.added ≡ steady_if c.args.self.now.steady (additions c.finish_load_packed.new.self.table) =
+    λ sorted. c.in_ok-added-in-Ok.ensures (subst (λ (L : Entries). IsStrictlySortedBy prefix_cmp (keys_of L)) (sym told.entries) sorted) ∙ ap (λ (L : Entries). steady_if c.args.self.now.steady (additions L)) told.entries
     in
     load_ended limits load c.args.self.now _ told.ends told.stands refl refl there refl refl s
 
