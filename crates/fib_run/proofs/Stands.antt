@@ -1,7 +1,5 @@
 -- Where the inputs begin, and where the load ends.
-use Rattle.std.proofs.Common.{◌≡◌, ℕ, false, List, [], ◌++◌, map, Some, None, Ok, refl, sym, ap, ◌∙◌, append-nil, arith, ◌∷◌}
-use Rattle.fib_due.specs.declared.outcome.Outcome.TheVariants.{NoMemory, TooLarge, Malformed, HopsFull, TrieFull}
-use Rattle.octet_fields.specs.Field.{◌>>=◌}
+use Rattle.std.proofs.Common.{◌≡◌, ℕ, false, List, [], ◌++◌, map, Some, None, Ok, refl, sym, ap, ◌∙◌, append-nil, arith}
 use Rattle.table_model.specs.Changes.{additions}
 use Rattle.printed_text.specs.Rows.{Vrp}
 use Rattle.fib_words.specs.Commands.{Named}

@@ -1,4 +1,4 @@
-use Rattle.std.proofs.Common.{ℕ, Err, [], ◌∷◌, map, sym, subst, ◌∙◌}
+use Rattle.std.proofs.Common.{ℕ, Err, [], ◌∷◌, map, sym, subst}
 use Rattle.std.proofs.lemmas.Result.{err_from_is_err_and}
 use Rattle.fib_prefix.specs.Views.{event_as}
 use Rattle.step_script.specs.Steps.{step_as}

@@ -1,4 +1,4 @@
-use Rattle.std.proofs.Common.{◌≡◌, ◌++◌, [], refl, sym, ap, ◌∙◌, true}
+use Rattle.std.proofs.Common.{◌++◌, refl, sym, ap, ◌∙◌}
 use Rattle.table_model.specs.Changes.{additions}
 use Rattle.table_model.specs.Entries.{Entries}
 use Rattle.kept_model.specs.Feed.{at_event}
